@@ -9,14 +9,13 @@ use native.Mathlib.Omega.{arith}
 use lib.Dec.{eqb, ltb}
 use borrow.Author.Tests.{eqb-true, eqb-false, eq-eqb, ne-eqb, ltb-true, ltb-false}
 use lib.ListN.{length, getD, length-map}
-use Rattle.meaning.specs.Context.{Row, termAt, same, pick, terms, rowAt, leftAt, rightAt}
+use Rattle.meaning.specs.Context.{Row, termAt, pick, terms, rowAt, leftAt, rightAt}
 use Rattle.meaning.specs.Equality.{repAt, Equal, transitive, symmetric, Sames, Stated, same-stop, same-more, congruent, given, reflexive}
 use Rattle.meaning.specs.Rules.{Below}
-use Rattle.meaning.specs.Text.{within}
 use Rattle.meaning.specs.Formed.{Ordered, Within}
 use Rattle.meaning.specs.ByTable.{sameList}
 use Rattle.meaning.proofs.Logic.{and-true-left, and-true-right}
-use Rattle.meaning.proofs.Lists.{sameList-true, sameList-self}
+use Rattle.meaning.proofs.Lists.{below-wider, sameList-true, sameList-self}
 use Rattle.meaning.proofs.Table.{term-at}
 use Rattle.meaning.proofs.Model.{Closed}
 use Rattle.meaning.proofs.Progress.{move, move-cases, Sofar, total, merge-keeps, merge-falls}
@@ -143,23 +142,19 @@ module _ (rows : List Row) (eqs : List (ℕ × ℕ)) where
       (transitive (subst (λ (x : ℕ). Equal rows eqs (termAt rows a) (termAt rows x)) h (so .sound a (bl .0))) (symmetric (so .sound b (bm .0))))
       (picks-same rep so l m (bl .1) (bm .1) t)
 
-  below-more : (i j : ℕ) (l : List ℕ) → i ≤ j → Below i l → Below j l
-  below-more i j [] h b = tt
-  below-more i j (a ∷ l) h b = (omega (arith, b .0), below-more i j l h (b .1))
-
   -- what two rows have to be for their representatives to be one
   abbrev Alike : ℕ → ℕ → List ℕ → Type 0
   Alike i j l =
       rowAt rows i .symbol ≡ rowAt rows j .symbol → map (repAt l) (rowAt rows i .args) ≡ map (repAt l) (rowAt rows j .args) → repAt l i ≡ repAt l j
 
   module _ (ordered : Ordered rows) where
-    agree-equal : (rep : ℕ → ℕ) → Sofar rows eqs rep → (i j : ℕ) → i < length rows → j < length rows
+    pub agree-equal : (rep : ℕ → ℕ) → Sofar rows eqs rep → (i j : ℕ) → i < length rows → j < length rows
         → rowAt rows i .symbol ≡ rowAt rows j .symbol → map rep (rowAt rows i .args) ≡ map rep (rowAt rows j .args)
         → Equal rows eqs (termAt rows i) (termAt rows j)
     agree-equal rep so i j hi hj e f =
         rw (term-at rows ordered i hi, term-at rows ordered j hj, e)
         (congruent
-        (picks-same rep so _ _ (below-more i (length rows) (rowAt rows i .args) (omega arith) (ordered i hi)) (below-more j (length rows) (rowAt rows j .args) (omega arith) (ordered j hj)) f))
+        (picks-same rep so _ _ (below-wider i (length rows) (rowAt rows i .args) (omega arith) (ordered i hi)) (below-wider j (length rows) (rowAt rows j .args) (omega arith) (ordered j hj)) f))
 
     uniteIf-outcome : (l : List ℕ) → Good l → (i j : ℕ) → i < length rows → j < length rows → Outcome (Alike i j) l (uniteIf rows i j l)
     unfolding uniteIf agree
@@ -252,12 +247,17 @@ module _ (rows : List Row) (eqs : List (ℕ × ℕ)) where
           go i j hi hj false e true f s m = ap (repAt l) (eqb-true i j f)
           go i j hi hj false e false f s m = d .1 i hi j (omega (arith, ltb-false i j e, eqb-false i j f)) s m
 
-      pub close-closed : Closed rows eqs (repAt (close rows eqs))
+      close-done : Good (close rows eqs) × Done (close rows eqs)
       unfolding close
-      close-closed =
+      close-done =
           let start : List ℕ = count (length rows) 0 in
-          let d : Good (close rows eqs) × Done (close rows eqs) = rounds-done (suc (sum start)) start start-good (omega arith) in
-          done-closed (close rows eqs) (d .0) (d .1)
+          rounds-done (suc (sum start)) start start-good (omega arith)
+
+      pub close-closed : Closed rows eqs (repAt (close rows eqs))
+      close-closed = done-closed (close rows eqs) (close-done .0) (close-done .1)
+
+      pub close-long : length (close rows eqs) ≡ length rows
+      close-long = close-done .0 .0
 
       -- ---- for a loop of rounds: what holds at its head, and what a round does there
       pub going-start : Going rows eqs (count (length rows) 0)

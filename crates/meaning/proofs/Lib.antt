@@ -12,3 +12,6 @@ pub mod Search
 pub mod Narrow
 pub mod Swap
 pub mod Computed
+pub mod Promised
+pub mod Least
+pub mod Apartness

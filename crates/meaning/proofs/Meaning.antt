@@ -12,7 +12,6 @@ use lib.ListN.{length, getD}
 use Rattle.meaning.specs.Context.{Row, stop, more, rowAt, pick, termAt, terms, Term, Terms, node}
 use Rattle.meaning.specs.Equality.{Equal, given, reflexive, symmetric, transitive, congruent, Sames, Stated, same-stop, same-more}
 use Rattle.meaning.specs.Rules.{Below}
-use Rattle.meaning.specs.Text.{within}
 use Rattle.meaning.specs.Formed.{Ordered, Within}
 use Rattle.meaning.proofs.Logic.{and-true-left, and-true-right}
 use Rattle.meaning.proofs.Table.{term-at}

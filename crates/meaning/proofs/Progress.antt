@@ -10,7 +10,7 @@ use native.Mathlib.Omega.{arith}
 use lib.Dec.{eqb, ltb}
 use borrow.Author.Tests.{eqb-true, eqb-false, eq-eqb, ne-eqb}
 use lib.ListN.{length, getD}
-use Rattle.meaning.specs.Context.{Row, termAt, same}
+use Rattle.meaning.specs.Context.{Row, termAt}
 use Rattle.meaning.specs.Equality.{Equal, transitive}
 
 -- what holds of the representatives from the start to the end
