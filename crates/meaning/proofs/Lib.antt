@@ -15,3 +15,6 @@ pub mod Computed
 pub mod Promised
 pub mod Least
 pub mod Apartness
+pub mod Levels
+pub mod Naming
+pub mod Numbered
