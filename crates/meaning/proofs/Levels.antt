@@ -3,7 +3,6 @@
 --     placed-at, args-before                  the arguments of a pattern row stand before it
 --     length-levels, level-at                 a row's level is that of its pattern over the levels of all rows
 --     level-variable, level-args              a variable's level; an argument's level is at most its user's
---     levels-most                             no level is above the number of variables
 --     instance-at                             a row's instance is that of its pattern over all instances
 --     rows-at, rows-rising                    the rows of level k are just those whose level is k, in rising order
 --     Ready, Orderly, level-orderly           an order in which each row stands once and after its arguments; a level's rows after those of lower levels are one
@@ -25,7 +24,7 @@ use Rattle.meaning.specs.Rules.{Pattern, variable, apply, variables, ins
 use Rattle.meaning.specs.Formed.{Placed, AllPlaced}
 use Rattle.meaning.specs.Values.{highest, levelOf, levelsFrom, levels, rowsAt, patternAt, Numbering, step, number, unread, stages}
 use Rattle.meaning.proofs.Lists.{length-snoc}
-use Rattle.meaning.proofs.Search.{Mem, Above, Rising, above-mem}
+use Rattle.meaning.proofs.Box.{mem-below, Mem, Above, Rising, above-mem}
 
 pub mem-front : (x : ℕ) (l m : List ℕ) → Mem x l → Mem x (l ++ m)
 mem-front x [] m h = absurd h
@@ -40,11 +39,6 @@ pub mem-cases : (x : ℕ) (l m : List ℕ) → Mem x (l ++ m) → Mem x l ⊎ Me
 mem-cases x [] m h = inr h
 mem-cases x (y ∷ l) m (inl e) = inl (inl e)
 mem-cases x (y ∷ l) m (inr h) = ⊎-elim (λ a. inl (inr a)) inr (mem-cases x l m h)
-
-below-mem : (n x : ℕ) (l : List ℕ) → Below n l → Mem x l → x < n
-below-mem n x [] b m = absurd m
-below-mem n x (y ∷ l) b (inl e) = omega (arith, b .0, e)
-below-mem n x (y ∷ l) b (inr m) = below-mem n x l (b .1) m
 
 pub placed-at : (i : ℕ) (ps : List Pattern) → AllPlaced i ps → (p : ℕ) → p < length ps → Placed (i + p) (patternAt ps p)
 placed-at i [] w p h = absurd (omega arith)
@@ -117,19 +111,6 @@ highest-has ls [] a m = absurd m
 highest-has ls (b ∷ l) a (inl e) = let q : getD ls a 0 ≡ getD ls b 0 = ap (λ (x : ℕ). getD ls x 0) e in omega arith
 highest-has ls (b ∷ l) a (inr m) = omega (arith, highest-has ls l a m)
 
-highest-most : (n i : ℕ) (ls l : List ℕ) → ((a : ℕ) → a < i → getD ls a 0 ≤ n) → Below i l → highest ls l ≤ n
-unfolding highest
-highest-most n i ls [] h b = omega arith
-highest-most n i ls (a ∷ l) h b = omega (arith, h a (b .0), highest-most n i ls l h (b .1))
-
-variable-most : (ps : List Pattern) (p v : ℕ) → p < length ps → patternAt ps p ≡ variable v → v < variables ps
-unfolding variables
-variable-most [] p v h e = absurd (omega arith)
-variable-most (variable w ∷ ps) zero v h e = let q : w ≡ v = cc in omega arith
-variable-most (apply f l ∷ ps) zero v h e = absurd (let z : _≡_ {A = ℕ} 0 1 = cc in omega arith)
-variable-most (variable w ∷ ps) (suc p) v h e = omega (arith, variable-most ps p v (omega arith) e)
-variable-most (apply f l ∷ ps) (suc p) v h e = variable-most ps p v (omega arith) e
-
 module _ (ps : List Pattern) (placed : AllPlaced 0 ps) where
   pub level-at : (p : ℕ) → p < length ps → levelAt ps p ≡ levelOf (levels ps) (patternAt ps p)
   unfolding levels
@@ -147,20 +128,6 @@ module _ (ps : List Pattern) (placed : AllPlaced 0 ps) where
   unfolding levelOf
   level-args p f l h e a m =
       let q : levelAt ps p ≡ highest (levels ps) l = level-at p h ∙ ap (levelOf (levels ps)) e in omega (arith, highest-has (levels ps) l a m)
-
-  most-below : (m p : ℕ) → p < m → p < length ps → levelAt ps p ≤ variables ps
-  unfolding levelOf
-  most-below zero p l h = absurd (omega arith)
-  most-below (suc m) p l h = go (patternAt ps p) refl (λ j k. most-below m j (omega arith) (omega arith))
-    where
-      go : (q : Pattern) → patternAt ps p ≡ q → ((j : ℕ) → j < p → levelAt ps j ≤ variables ps) → levelAt ps p ≤ variables ps
-      go (variable v) e ih = omega (arith, level-variable p v h e, variable-most ps p v h e)
-      go (apply f k) e ih =
-          let q : levelAt ps p ≡ highest (levels ps) k = level-at p h ∙ ap (levelOf (levels ps)) e in
-          omega (arith, highest-most (variables ps) p (levels ps) k ih (args-before p f k h e))
-
-  pub levels-most : (p : ℕ) → p < length ps → levelAt ps p ≤ variables ps
-  levels-most p h = most-below (suc p) p (omega arith) h
 
 -- ---- instances
 
@@ -273,7 +240,7 @@ module _ (Means : ℕ → Type 0) (ps : List Pattern) (placed : AllPlaced 0 ps) 
     where
       go : (p : Pattern) → patternAt ps r ≡ p → Usable done (r ∷ rs) p → Ready Means done p
       go (variable v) e x = x
-      go (apply f l) e x = λ a m. ⊎-elim (λ y. y) (λ y. absurd (late a (below-mem r a l (args-before ps placed r f l h e) m) y)) (x a m)
+      go (apply f l) e x = λ a m. ⊎-elim (λ y. y) (λ y. absurd (late a (mem-below r a l (args-before ps placed r f l h e) m) y)) (x a m)
         where
           late : (a : ℕ) → a < r → Mem a (r ∷ rs) → ⊥
           late a b (inl q) = omega arith
@@ -309,7 +276,7 @@ module _ (Means : ℕ → Type 0) (ps : List Pattern) (placed : AllPlaced 0 ps) 
     where
       go : (p : Pattern) → patternAt ps r ≡ p → Usable done (rowsAt k 0 (levels ps)) p
       go (variable v) e = means v (omega (arith, level-variable ps placed r v h e))
-      go (apply f l′) e = λ a m. at a (below-mem r a l′ (args-before ps placed r f l′ h e) m) (level-args ps placed r f l′ h e a m) (eqb (levelAt ps a) k) refl
+      go (apply f l′) e = λ a m. at a (mem-below r a l′ (args-before ps placed r f l′ h e) m) (level-args ps placed r f l′ h e a m) (eqb (levelAt ps a) k) refl
         where
           at : (a : ℕ) → a < r → levelAt ps a ≤ levelAt ps r → (b : Bool) → eqb (levelAt ps a) k ≡ b → Mem a done ⊎ Mem a (rowsAt k 0 (levels ps))
           at a c u true q = inr (rows-at ps k a .1 (omega arith, eqb-true (levelAt ps a) k q))

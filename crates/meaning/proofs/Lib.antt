@@ -1,4 +1,5 @@
--- The root of the laws.
+-- The root of the laws, by subject: truth values and lists; terms and the model theorem; a closing; what is kept apart; the search for a first
+-- breach; the values of pattern rows; texts; normal texts and demand 3; what is computed, the sheet and the controls.
 pub mod Logic
 pub mod Lists
 pub mod Table
@@ -7,14 +8,43 @@ pub mod Meaning
 pub mod Progress
 pub mod Closing
 pub mod Closes
-pub mod Order
-pub mod Search
-pub mod Narrow
-pub mod Swap
-pub mod Computed
 pub mod Promised
 pub mod Least
 pub mod Apartness
+pub mod Order
+pub mod Box
+pub mod Search
+pub mod Narrow
+pub mod From
+pub mod Swap
+pub mod Seek
+pub mod Prefix
+pub mod Pruned
+pub mod Due
+pub mod Finds
+pub mod Free
 pub mod Levels
 pub mod Naming
 pub mod Numbered
+pub mod Lines
+pub mod Taken
+pub mod Kept
+pub mod Counts
+pub mod Bounds
+pub mod Constants
+pub mod ReadBack
+pub mod ClauseLines
+pub mod Sorted
+pub mod Joins
+pub mod Pairs
+pub mod Normals
+pub mod Injective
+pub mod Agreement
+pub mod Rulings
+pub mod Computed
+pub mod Given
+pub mod Demanded
+pub mod Computes
+pub mod Answered
+pub mod Sheet
+pub mod Controls

@@ -22,7 +22,7 @@ use Rattle.meaning.proofs.Logic.{and-true-left, and-true-right, and-bot
 use Rattle.meaning.proofs.Lists.{sameList-true, sameList-self}
 use Rattle.meaning.proofs.Model.{Val, Vals, atRow, app, vstop, vmore, rowVals, areRows, settle}
 use Rattle.meaning.proofs.Meaning.{areRows-true, areRows-self}
-use Rattle.meaning.proofs.Search.{Mem}
+use Rattle.meaning.proofs.Box.{Mem}
 
 -- ---- names
 

@@ -1,17 +1,80 @@
--- Narrowings that keep the promise: rows that no member uses, and a variable that does not matter; and that any two kept promises reply alike.
+-- Prunings that keep their promise, and the stronger promise to keep every member.
+--     KeepsAll                              the new box has exactly the members of the old one
+--     keeps-all-covers, keeps-all-part      it then has, for each member, one that is no later; and it keeps every part of the set
+--     idle-keeps-all                        no pruning at all keeps every member
+--     prunes-then, prunes-same              one pruning after another; a pruning for another set with the same members
+--     sift, siftBox, sift-keeps-all         rows that a test refuses are dropped: none that a member uses
+--     takeFirst, free-prunes                a variable that does not matter takes its first open row
 -- Assumes nothing.
 use mathlib.Core.Bool.{Bool, true, false}
-use mathlib.Core.List.{List, [], _∷_, _++_, map, append-nil, append-assoc}
-use mathlib.Core.Path.{_≡_, refl, ap, ap₂, sym, _∙_, subst}
-use mathlib.Core.Logic.{_⊎_, inl, inr, ⊎-elim, _↔_}
-use Prim.Native.Nat.{ℕ, zero, suc, _+_, _≤_, _<_}
-use native.Mathlib.Omega.{arith}
-use lib.Dec.{eqb}
-use borrow.Author.Tests.{eqb-true, eqb-false}
-use lib.ListN.{length, getD, set, take, length-append}
-use Rattle.meaning.specs.Rules.{Below}
-use Rattle.meaning.proofs.Order.{Covers, keeps-covers, Upto, upto-cons, first-one}
-use Rattle.meaning.proofs.Search.{Box, Mem, Rising, Above, Good, Inside, Open, above-mem, search, SearchPromise, search-first}
+use mathlib.Core.List.{List, [], _∷_, _++_}
+use mathlib.Core.Path.{_≡_, refl, ap, sym, _∙_}
+use mathlib.Core.Logic.{inl, inr, ⊎-elim, _↔_}
+use Prim.Native.Nat.{ℕ, suc}
+use lib.ListN.{length}
+use Rattle.meaning.proofs.Logic.{false-true}
+use Rattle.meaning.proofs.Order.{Covers, keeps-covers, covers-trans, Upto, upto-append}
+use Rattle.meaning.proofs.Box.{Box, Mem, Rising, Above, Good, Inside, Open, OfRows, above-mem, mem-all, all-self}
+use Rattle.meaning.proofs.Search.{Prunes}
+
+-- ---- the two promises
+
+-- every member inside the box stays, and none comes in
+pub record KeepsAll (So : List ℕ → Type 0) (rows : List ℕ) (narrow : List ℕ → Box → Box) : Type 0 where
+  pub keeps : (chosen : List ℕ) (box : Box) → OfRows rows chosen box → (a : List ℕ) → Open So chosen box a ↔ Open So chosen (narrow chosen box) a
+  pub good : (chosen : List ℕ) (box : Box) → Good rows box → Good rows (narrow chosen box)
+  pub long : (chosen : List ℕ) (box : Box) → length (narrow chosen box) ≡ length box
+
+pub keeps-all-covers : {So : List ℕ → Type 0} {rows : List ℕ} {narrow : List ℕ → Box → Box} → KeepsAll So rows narrow → Prunes So rows narrow
+keeps-all-covers k = record { covers = λ chosen box w. keeps-covers (k .keeps chosen box w); good = k .good; long = k .long }
+
+-- where nothing is pruned
+pub idle-keeps-all : (So : List ℕ → Type 0) (rows : List ℕ) → KeepsAll So rows (λ chosen box. box)
+idle-keeps-all So rows = record { keeps = λ chosen box w a. (λ o. o, λ o. o); good = λ chosen box g. g; long = λ chosen box. refl }
+
+open-part : (So Part : List ℕ → Type 0) (chosen : List ℕ) (box : Box) (a : List ℕ) → Part a → Open So chosen box a → Open Part chosen box a
+open-part So Part chosen box a p o = record { rest = o .rest; whole = o .whole; inside = o .inside; so = p }
+
+-- what keeps every member of a set keeps every member of any part of it
+pub keeps-all-part : {So : List ℕ → Type 0} (Part : List ℕ → Type 0) {rows : List ℕ} {narrow : List ℕ → Box → Box} → ((a : List ℕ) → Part a → So a)
+    → KeepsAll So rows narrow → KeepsAll Part rows narrow
+keeps-all-part {So} Part {rows} {narrow} f k =
+    record {
+      keeps = λ chosen box w a. (
+        λ o. open-part So Part chosen (narrow chosen box) a (o .so) (k .keeps chosen box w a .0 (open-part Part So chosen box a (f a (o .so)) o)),
+        λ o. open-part So Part chosen box a (o .so) (k .keeps chosen box w a .1 (open-part Part So chosen (narrow chosen box) a (f a (o .so)) o)),
+      );
+      good = k .good;
+      long = k .long;
+    }
+
+pub prunes-then : {So : List ℕ → Type 0} {rows : List ℕ} {narrow after : List ℕ → Box → Box} → Prunes So rows narrow → Prunes So rows after
+    → Prunes So rows (λ chosen box. after chosen (narrow chosen box))
+prunes-then {So} {rows} {narrow} {after} p q =
+    record {
+      covers = λ chosen box w. covers-trans (p .covers chosen box w) (q .covers chosen (narrow chosen box) (w .0, p .good chosen box (w .1)));
+      good = λ chosen box g. q .good chosen (narrow chosen box) (p .good chosen box g);
+      long = λ chosen box. q .long chosen (narrow chosen box) ∙ p .long chosen box;
+    }
+
+pub prunes-same : {So : List ℕ → Type 0} (Twin : List ℕ → Type 0) {rows : List ℕ} {narrow : List ℕ → Box → Box} → ((a : List ℕ) → So a ↔ Twin a)
+    → Prunes So rows narrow → Prunes Twin rows narrow
+prunes-same {So} Twin {rows} {narrow} f p = record { covers = λ chosen box w. covers′ chosen box (p .covers chosen box w); good = p .good; long = p .long }
+  where
+    to : (chosen : List ℕ) (box : Box) (a : List ℕ) → Open So chosen box a → Open Twin chosen box a
+    to chosen box a o = open-part So Twin chosen box a (f a .0 (o .so)) o
+
+    from : (chosen : List ℕ) (box : Box) (a : List ℕ) → Open Twin chosen box a → Open So chosen box a
+    from chosen box a o = open-part Twin So chosen box a (f a .1 (o .so)) o
+
+    covers′ : (chosen : List ℕ) (box : Box) → Covers (Open So chosen box) (Open So chosen (narrow chosen box)) → Covers (Open Twin chosen box) (Open Twin chosen (narrow chosen box))
+    covers′ chosen box c =
+        record {
+          part = λ a o. to chosen box a (c .part a (from chosen (narrow chosen box) a o));
+          cover = λ a o.
+              let k : (b : List ℕ) × Open So chosen (narrow chosen box) b × Upto b a = c .cover a (from chosen box a o) in
+              (k .0, to chosen (narrow chosen box) (k .0) (k .1), k .2);
+        }
 
 -- ---- rows that a test keeps
 
@@ -24,14 +87,14 @@ unfoldable pub siftBox : (ℕ → ℕ → Bool) → ℕ → Box → Box
 siftBox keep v [] = []
 siftBox keep v (l ∷ box) = sift (keep v) l ∷ siftBox keep (suc v) box
 
-sift-part : (keep : ℕ → Bool) (l : List ℕ) (x : ℕ) → Mem x (sift keep l) → Mem x l
+pub sift-part : (keep : ℕ → Bool) (l : List ℕ) (x : ℕ) → Mem x (sift keep l) → Mem x l × (keep x ≡ true)
 unfolding sift
-sift-part keep [] x m = m
+sift-part keep [] x m = absurd m
 sift-part keep (y ∷ l) x m = go (keep y) refl (sift-part keep l x)
   where
-    go : (b : Bool) → keep y ≡ b → (Mem x (sift keep l) → Mem x l) → Mem x (y ∷ l)
-    go true e f = ⊎-elim (λ q. inl q) (λ q. inr (f q)) (rw (e, sift) at m)
-    go false e f = inr (f (rw (e, sift) at m))
+    go : (b : Bool) → keep y ≡ b → (Mem x (sift keep l) → Mem x l × (keep x ≡ true)) → Mem x (y ∷ l) × (keep x ≡ true)
+    go true e f = ⊎-elim (λ q. (inl q, ap keep q ∙ e)) (λ q. (inr (f q .0), f q .1)) (rw (e, sift) at m)
+    go false e f = let w : Mem x l × (keep x ≡ true) = f (rw (e, sift) at m) in (inr (w .0), w .1)
 
 sift-keeps : (keep : ℕ → Bool) (l : List ℕ) (x : ℕ) → Mem x l → keep x ≡ true → Mem x (sift keep l)
 unfolding sift
@@ -41,18 +104,17 @@ sift-keeps keep (y ∷ l) x m k = go (keep y) refl m (λ q. sift-keeps keep l x 
     go : (b : Bool) → keep y ≡ b → Mem x (y ∷ l) → (Mem x l → Mem x (sift keep l)) → Mem x (sift keep (y ∷ l))
     go true e (inl q) f = rw (e, sift) (inl q)
     go true e (inr q) f = rw (e, sift) (inr (f q))
-    go false e (inl q) f = absurd (let t : keep x ≡ false = ap keep q ∙ e in let z : _≡_ {A = ℕ} 0 1 = cc in omega arith)
+    go false e (inl q) f = false-true k (ap keep q ∙ e)
     go false e (inr q) f = rw (e, sift) (f q)
 
-sift-all : (P : ℕ → List ℕ → Type 0) (keep : ℕ → Bool) (x : ℕ) → P x [] → ((y : ℕ) (l : List ℕ) → P x (y ∷ l) → P x l)
-    → ((y : ℕ) (l m : List ℕ) → P x (y ∷ l) → P x m → P x (y ∷ m)) → (l : List ℕ) → P x l → P x (sift keep l)
+sift-above : (keep : ℕ → Bool) (x : ℕ) (l : List ℕ) → Above x l → Above x (sift keep l)
 unfolding sift
-sift-all P keep x n tail more [] p = p
-sift-all P keep x n tail more (y ∷ l) p = go (keep y) refl (sift-all P keep x n tail more l (tail y l p))
+sift-above keep x [] h = tt
+sift-above keep x (y ∷ l) h = go (keep y) refl (sift-above keep x l (h .1))
   where
-    go : (b : Bool) → keep y ≡ b → P x (sift keep l) → P x (sift keep (y ∷ l))
-    go true e q = rw (e, sift) (more y l (sift keep l) p q)
-    go false e q = rw (e, sift) q
+    go : (b : Bool) → keep y ≡ b → Above x (sift keep l) → Above x (sift keep (y ∷ l))
+    go true e w = rw (e, sift) (h .0, w)
+    go false e w = rw (e, sift) w
 
 sift-rising : (keep : ℕ → Bool) (l : List ℕ) → Rising l → Rising (sift keep l)
 unfolding sift
@@ -60,18 +122,18 @@ sift-rising keep [] r = tt
 sift-rising keep (y ∷ l) r = go (keep y) refl (sift-rising keep l (r .1))
   where
     go : (b : Bool) → keep y ≡ b → Rising (sift keep l) → Rising (sift keep (y ∷ l))
-    go true e q = rw (e, sift) (sift-all Above keep y tt (λ _ _ p. p .1) (λ _ _ _ p w. (p .0, w)) l (r .0), q)
+    go true e q = rw (e, sift) (sift-above keep y l (r .0), q)
     go false e q = rw (e, sift) q
 
-pub siftBox-good : (keep : ℕ → ℕ → Bool) (v n : ℕ) (box : Box) → Good n box → Good n (siftBox keep v box)
+pub siftBox-good : (keep : ℕ → ℕ → Bool) (v : ℕ) (rows : List ℕ) (box : Box) → Good rows box → Good rows (siftBox keep v box)
 unfolding siftBox
-siftBox-good keep v n [] g = tt
-siftBox-good keep v n (l ∷ box) g = (
-  (sift-rising (keep v) l (g .0 .0), sift-all Below (keep v) n tt (λ _ _ p. p .1) (λ _ _ _ p w. (p .0, w)) l (g .0 .1)),
-  siftBox-good keep (suc v) n box (g .1),
+siftBox-good keep v rows [] g = tt
+siftBox-good keep v rows (l ∷ box) g = (
+  (sift-rising (keep v) l (g .0 .0), all-self rows (sift (keep v) l) (λ x m. mem-all rows x l (g .0 .1) (sift-part (keep v) l x m .0))),
+  siftBox-good keep (suc v) rows box (g .1),
 )
 
-pub siftBox-long : (keep : ℕ → ℕ → Bool) (v : ℕ) (box : Box) → length (siftBox keep v box) ≡ length box
+siftBox-long : (keep : ℕ → ℕ → Bool) (v : ℕ) (box : Box) → length (siftBox keep v box) ≡ length box
 unfolding siftBox
 siftBox-long keep v [] = refl
 siftBox-long keep v (l ∷ box) = ap suc (siftBox-long keep (suc v) box)
@@ -81,7 +143,7 @@ unfolding siftBox
 siftBox-part keep v [] [] i = tt
 siftBox-part keep v [] (x ∷ a) i = absurd i
 siftBox-part keep v (l ∷ box) [] i = absurd i
-siftBox-part keep v (l ∷ box) (x ∷ a) i = (sift-part (keep v) l x (i .0), siftBox-part keep (suc v) box a (i .1))
+siftBox-part keep v (l ∷ box) (x ∷ a) i = (sift-part (keep v) l x (i .0) .0, siftBox-part keep (suc v) box a (i .1))
 
 -- each place passes its variable's test
 abbrev pub Kept : (ℕ → ℕ → Bool) → ℕ → List ℕ → Type 0
@@ -95,50 +157,84 @@ siftBox-keeps keep v [] (x ∷ a) i k = absurd i
 siftBox-keeps keep v (l ∷ box) [] i k = absurd i
 siftBox-keeps keep v (l ∷ box) (x ∷ a) i k = (sift-keeps (keep v) l x (i .0) (k .0), siftBox-keeps keep (suc v) box a (i .1) (k .1))
 
-module _ (So : List ℕ → Type 0) where
-  -- a test that every member inside the box passes may drop the rows that fail it
-  pub sift-covers : (keep : ℕ → ℕ → Bool) (chosen : List ℕ) (box : Box) → ((a : List ℕ) (o : Open So chosen box a) → Kept keep (length chosen) (o .rest))
-      → Covers (Open So chosen box) (Open So chosen (siftBox keep (length chosen) box))
-  sift-covers keep chosen box safe =
-      keeps-covers
-      (λ a o. record { rest = o .rest; whole = o .whole; inside = siftBox-part keep (length chosen) box (o .rest) (o .inside); so = o .so })
-      (λ a o. record { rest = o .rest; whole = o .whole; inside = siftBox-keeps keep (length chosen) box (o .rest) (o .inside) (safe a o); so = o .so })
+-- each member inside a box passes the tests of its choice and that box
+pub sift-keeps-all : (So : List ℕ → Type 0) (rows : List ℕ) (keep : List ℕ → Box → ℕ → ℕ → Bool)
+    → ((chosen : List ℕ) (box : Box) → OfRows rows chosen box → (rest : List ℕ) → Inside box rest → So (chosen ++ rest) → Kept (keep chosen box) (length chosen) rest)
+    → KeepsAll So rows (λ chosen box. siftBox (keep chosen box) (length chosen) box)
+sift-keeps-all So rows keep safe =
+    record {
+      keeps = λ chosen box w a. (
+        λ o.
+            let k : Kept (keep chosen box) (length chosen) (o .rest) = safe chosen box w (o .rest) (o .inside) (rw (o .whole) at (o .so)) in
+            record { rest = o .rest; whole = o .whole; inside = siftBox-keeps (keep chosen box) (length chosen) box (o .rest) (o .inside) k; so = o .so },
+        λ o. record { rest = o .rest; whole = o .whole; inside = siftBox-part (keep chosen box) (length chosen) box (o .rest) (o .inside); so = o .so },
+      );
+      good = λ chosen box g. siftBox-good (keep chosen box) (length chosen) rows box g;
+      long = λ chosen box. siftBox-long (keep chosen box) (length chosen) box;
+    }
 
-  -- a variable that does not matter takes its first open row
-  pub free-covers : (chosen : List ℕ) (x : ℕ) (l : List ℕ) (box : Box) → Rising (x ∷ l)
-      → ((y : ℕ) (r : List ℕ) → So (chosen ++ y ∷ r) → So (chosen ++ x ∷ r))
-      → Covers (Open So chosen ((x ∷ l) ∷ box)) (Open So chosen ((x ∷ []) ∷ box))
-  free-covers chosen x l box up free =
+-- ---- a variable that does not matter
+
+-- the next variable, where it is free, takes its first open row alone
+unfoldable pub takeFirst : (ℕ → Bool) → List ℕ → Box → Box
+takeFirst free chosen [] = []
+takeFirst free chosen ([] ∷ box) = [] ∷ box
+takeFirst free chosen ((x ∷ l) ∷ box) = elim (free (length chosen)) [ true ↦ (x ∷ []) ∷ box | false ↦ (x ∷ l) ∷ box ]
+
+module _ (So : List ℕ → Type 0) (chosen : List ℕ) (x : ℕ) (l : List ℕ) (box : Box) (up : Above x l)
+    (swap : (y : ℕ) (r : List ℕ) → So (chosen ++ y ∷ r) → So (chosen ++ x ∷ r)) where
+  free-wider : (a r : List ℕ) → a ≡ chosen ++ r → Inside ((x ∷ []) ∷ box) r → So a → Open So chosen ((x ∷ l) ∷ box) a
+  free-wider a [] e i s = absurd i
+  free-wider a (y ∷ r) e i s = record { rest = y ∷ r; whole = e; inside = (⊎-elim (λ q. inl q) (λ q. absurd q) (i .0), i .1); so = s }
+
+  free-first : (a r : List ℕ) → a ≡ chosen ++ r → Inside ((x ∷ l) ∷ box) r → So a → (b : List ℕ) × Open So chosen ((x ∷ []) ∷ box) b × Upto b a
+  free-first a [] e i s = absurd i
+  free-first a (y ∷ r) e i s = (
+    chosen ++ x ∷ r,
+    record { rest = x ∷ r; whole = refl; inside = (inl refl, i .1); so = swap y r (rw e at s) },
+    rw e (upto-append chosen (x ∷ r) (y ∷ r) (⊎-elim (λ q. inl (ap (_∷ r) (sym q))) (λ m. inr (inl (above-mem x y l up m))) (i .0))),
+  )
+
+  free-covers : Covers (Open So chosen ((x ∷ l) ∷ box)) (Open So chosen ((x ∷ []) ∷ box))
+  free-covers =
       record {
-        part = λ a o. wider a (o .rest) (o .whole) (o .inside) (o .so);
-        cover = λ a o. first a (o .rest) (o .whole) (o .inside) (o .so);
+        part = λ a o. free-wider a (o .rest) (o .whole) (o .inside) (o .so);
+        cover = λ a o. free-first a (o .rest) (o .whole) (o .inside) (o .so);
       }
-    where
-      wider : (a r : List ℕ) → a ≡ chosen ++ r → Inside ((x ∷ []) ∷ box) r → So a → Open So chosen ((x ∷ l) ∷ box) a
-      wider a [] e i s = absurd i
-      wider a (y ∷ r) e i s = record { rest = y ∷ r; whole = e; inside = (⊎-elim (λ q. inl q) (λ q. absurd q) (i .0), i .1); so = s }
 
-      upto-append : (c : List ℕ) (p q : List ℕ) → Upto p q → Upto (c ++ p) (c ++ q)
-      upto-append [] p q u = u
-      upto-append (z ∷ c) p q u = upto-cons z (c ++ p) (c ++ q) (upto-append c p q u)
+-- a free variable's row may be put for another in any member
+pub free-prunes : (So : List ℕ → Type 0) (rows : List ℕ) (free : ℕ → Bool)
+    → ((chosen : List ℕ) (x y : ℕ) (r : List ℕ) → free (length chosen) ≡ true → Mem x rows → So (chosen ++ y ∷ r) → So (chosen ++ x ∷ r))
+    → Prunes So rows (takeFirst free)
+unfolding takeFirst
+free-prunes So rows free swap = record { covers = λ chosen box w. covers′ chosen box (w .1); good = good′; long = long′ }
+  where
+    same : (P : List ℕ → Type 0) → Covers P P
+    same P = keeps-covers (λ a. (λ o. o, λ o. o))
 
-      no-later : (y : ℕ) (r : List ℕ) → Mem y (x ∷ l) → Upto (x ∷ r) (y ∷ r)
-      no-later y r (inl e) = inl (ap (_∷ r) (sym e))
-      no-later y r (inr m) = inr (inl (above-mem x y l (up .0) m))
+    covers′ : (chosen : List ℕ) (box : Box) → Good rows box → Covers (Open So chosen box) (Open So chosen (takeFirst free chosen box))
+    covers′ chosen [] g = same (Open So chosen [])
+    covers′ chosen ([] ∷ box) g = same (Open So chosen ([] ∷ box))
+    covers′ chosen ((x ∷ l) ∷ box) g = go (free (length chosen)) refl
+      where
+        go : (b : Bool) → free (length chosen) ≡ b → Covers (Open So chosen ((x ∷ l) ∷ box)) (Open So chosen (takeFirst free chosen ((x ∷ l) ∷ box)))
+        go true e = rw (e, takeFirst) (free-covers So chosen x l box (g .0 .0 .0) (λ y r. swap chosen x y r e (g .0 .1 .0)))
+        go false e = rw (e, takeFirst) (same (Open So chosen ((x ∷ l) ∷ box)))
 
-      first : (a r : List ℕ) → a ≡ chosen ++ r → Inside ((x ∷ l) ∷ box) r → So a → (b : List ℕ) × Open So chosen ((x ∷ []) ∷ box) b × Upto b a
-      first a [] e i s = absurd i
-      first a (y ∷ r) e i s = (
-        chosen ++ x ∷ r,
-        record { rest = x ∷ r; whole = refl; inside = (inl refl, i .1); so = free y r (rw e at s) },
-        rw e (upto-append chosen (x ∷ r) (y ∷ r) (no-later y r (i .0))),
-      )
+    good′ : (chosen : List ℕ) (box : Box) → Good rows box → Good rows (takeFirst free chosen box)
+    good′ chosen [] g = g
+    good′ chosen ([] ∷ box) g = g
+    good′ chosen ((x ∷ l) ∷ box) g = go (free (length chosen)) refl
+      where
+        go : (b : Bool) → free (length chosen) ≡ b → Good rows (takeFirst free chosen ((x ∷ l) ∷ box))
+        go true e = rw (e, takeFirst) (((tt, tt), (g .0 .1 .0, tt)), g .1)
+        go false e = rw (e, takeFirst) g
 
-  -- two searches that keep the promise reply alike
-  pub search-one : {total limit : ℕ} {dead dead′ : List ℕ → Bool} {narrow narrow′ : List ℕ → Box → Box}
-      → SearchPromise So total limit dead narrow → SearchPromise So total limit dead′ narrow′ → ((a : List ℕ) → So a → length a ≡ total)
-      → (box : Box) → length box ≡ total → Good limit box → search dead narrow total [] box ≡ search dead′ narrow′ total [] box
-  search-one {total} {limit} {dead} {dead′} {narrow} {narrow′} p q long box h g =
-      first-one (Open So [] box) total (λ a o. long a (o .so)) (search dead narrow total [] box) (search dead′ narrow′ total [] box)
-      (search-first So p total [] box (omega arith) h g tt)
-      (search-first So q total [] box (omega arith) h g tt)
+    long′ : (chosen : List ℕ) (box : Box) → length (takeFirst free chosen box) ≡ length box
+    long′ chosen [] = refl
+    long′ chosen ([] ∷ box) = refl
+    long′ chosen ((x ∷ l) ∷ box) = go (free (length chosen)) refl
+      where
+        go : (b : Bool) → free (length chosen) ≡ b → length (takeFirst free chosen ((x ∷ l) ∷ box)) ≡ suc (length box)
+        go true e = rw (e, takeFirst) refl
+        go false e = rw (e, takeFirst) refl

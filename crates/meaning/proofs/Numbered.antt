@@ -28,8 +28,9 @@ use Rattle.meaning.proofs.Logic.{and-true-left, and-true-right, and-bot
 use Rattle.meaning.proofs.Model.{Closed, Val, Vals, atRow, app, settle, eval, evals}
 use Rattle.meaning.proofs.Meaning.{answer, Answer, meaning, eval-row}
 use Rattle.meaning.proofs.Apartness.{Meets, apartBy-true}
-use Rattle.meaning.proofs.Search.{Mem}
-use Rattle.meaning.proofs.Levels.{mem-front, mem-back, mem-cases, levelAt, levels-most, instance-at, Ready, ready-more, Orderly, level-orderly, none-read, stages-read}
+use Rattle.meaning.proofs.Box.{Mem}
+use Rattle.meaning.proofs.Prefix.{levels-most}
+use Rattle.meaning.proofs.Levels.{mem-front, mem-back, mem-cases, levelAt, instance-at, Ready, ready-more, Orderly, level-orderly, none-read, stages-read}
 use Rattle.meaning.proofs.Naming.{Fair, Nameds, fair-values, fair-numbers, Fresh, fair-more, Small, Alike, held-settle, over-true, over-self, MetCases, met-cases}
 
 -- an application outside the table shows its symbol and its arguments
@@ -325,12 +326,12 @@ module _ (rows : List Row) (eqs : List (ℕ × ℕ)) (rep : ℕ → ℕ) (ordere
     -- two instances are equal just where their numbers are
     pub equal-numbers : (p q : ℕ) → p < length ps → q < length ps → Equal rows eqs (inst p) (inst q) ↔ (num p ≡ num q)
     unfolding numbers
-    equal-numbers p q hp hq = equal-stage (variables ps) means p q hp hq (levels-most ps placed p hp) (levels-most ps placed q hq)
+    equal-numbers p q hp hq = equal-stage (variables ps) means p q hp hq (levels-most ps p) (levels-most ps q)
 
     -- an instance is equal to a context row just where its number is the row's representative
     pub equal-row : (p r : ℕ) → p < length ps → r < length rows → Equal rows eqs (inst p) (termAt rows r) ↔ (num p ≡ rep r)
     unfolding numbers
-    equal-row p r hp hr = row-stage (variables ps) means p r hp hr (levels-most ps placed p hp)
+    equal-row p r hp hr = row-stage (variables ps) means p r hp hr (levels-most ps p)
 
 -- ---- literals
 

@@ -1,15 +1,22 @@
--- The order of assignments; the first of a set of assignments is one, and is found in any part that covers the set.
+-- The order of assignments, the first of a set of assignments, and parts of a set in which its first is found.
+--     before-trans, before-not-self, before-cases    the order is strict, and total on assignments of one length
+--     before-append, before-snoc                     two assignments that begin alike; one place more
+--     Upto, upto-before, upto-append, upto-map       earlier or the same; behind the same places; place by place no later
+--     first-one                                      a set whose members have one length has one first
+--     Covers, covers-first, covers-trans             a part of a set that has, for each member, one that is no later
+--     keeps-covers, same-first                       two sets with the same members
+--     Split, split-found, split-later                a set in two parts, the one before the other
 -- Assumes nothing.
 use mathlib.Core.Bool.{Bool, true, false}
 use mathlib.Core.List.{List, [], _∷_, _++_, map}
 use mathlib.Core.Path.{_≡_, refl, ap, ap₂, sym, _∙_, subst}
 use mathlib.Core.Logic.{_⊎_, inl, inr, ⊎-elim, _↔_}
-use Prim.Native.Nat.{ℕ, zero, suc, _+_, _≤_, _<_}
+use Prim.Native.Nat.{ℕ, _≤_, _<_}
 use native.Mathlib.Omega.{arith}
 use lib.Dec.{eqb, ltb}
-use borrow.Author.Tests.{eqb-true, eqb-false, eq-eqb, ltb-true, ltb-false}
-use lib.ListN.{length, getD}
-use Rattle.meaning.specs.Rules.{Before, Found, First, found, nothing}
+use borrow.Author.Tests.{eqb-true, eqb-false, ltb-true, ltb-false}
+use lib.ListN.{length, getD, take}
+use Rattle.meaning.specs.Rules.{Below, Before, Found, First, found, nothing}
 
 pub before-trans : (a b c : List ℕ) → Before a b → Before b c → Before a c
 before-trans [] b c p q = p
@@ -40,6 +47,21 @@ before-cases (x ∷ a) (y ∷ b) e = go (before-cases a b (omega arith)) (ltb x 
     go (inr (inl w)) false p true q = inr (inl (inr (eqb-true x y q, w)))
     go (inr (inr w)) false p true q = inr (inr (inr (sym (eqb-true x y q), w)))
 
+pub before-append : (c a b : List ℕ) → Before (c ++ a) (c ++ b) → Before a b
+before-append [] a b h = h
+before-append (x ∷ c) a b (inl h) = absurd (omega arith)
+before-append (x ∷ c) a b (inr h) = before-append c a b (h .1)
+
+-- with one place more it is earlier already, or agrees so far and has a lower place next
+pub before-snoc : (c : List ℕ) (x : ℕ) (b : List ℕ) → Before (c ++ (x ∷ [])) b → Before c b ⊎ ((c ≡ take (length c) b) × (x < getD b (length c) 0))
+before-snoc [] x [] h = absurd h
+before-snoc [] x (y ∷ b) (inl h) = inr (refl, h)
+before-snoc [] x (y ∷ b) (inr h) = absurd (h .1)
+before-snoc (z ∷ c) x [] h = absurd h
+before-snoc (z ∷ c) x (y ∷ b) (inl h) = inl (inl h)
+before-snoc (z ∷ c) x (y ∷ b) (inr h) =
+    ⊎-elim (λ w. inl (inr (h .0, w))) (λ w. inr (ap₂ _∷_ (h .0) (w .0), w .1)) (before-snoc c x b (h .1))
+
 -- earlier, or the same
 abbrev pub Upto : List ℕ → List ℕ → Type 0
 Upto a b = (a ≡ b) ⊎ Before a b
@@ -52,18 +74,22 @@ pub upto-trans : (a b c : List ℕ) → Upto a b → Upto b c → Upto a c
 upto-trans a b c p (inl e) = subst (Upto a) e p
 upto-trans a b c p (inr q) = inr (upto-before a b c p q)
 
-pub upto-cons : (x : ℕ) (a b : List ℕ) → Upto a b → Upto (x ∷ a) (x ∷ b)
+upto-cons : (x : ℕ) (a b : List ℕ) → Upto a b → Upto (x ∷ a) (x ∷ b)
 upto-cons x a b (inl e) = inl (ap (x ∷_) e)
 upto-cons x a b (inr p) = inr (inr (refl, p))
 
+pub upto-append : (c a b : List ℕ) → Upto a b → Upto (c ++ a) (c ++ b)
+upto-append [] a b u = u
+upto-append (x ∷ c) a b u = upto-cons x (c ++ a) (c ++ b) (upto-append c a b u)
+
 -- place by place no later
-pub upto-map : (low : ℕ → ℕ) (n : ℕ) → ((i : ℕ) → i < n → low i ≤ i) → (a : List ℕ) → ((k : ℕ) → k < length a → getD a k 0 < n) → Upto (map low a) a
+pub upto-map : (low : ℕ → ℕ) (n : ℕ) → ((i : ℕ) → i < n → low i ≤ i) → (a : List ℕ) → Below n a → Upto (map low a) a
 upto-map low n f [] h = inl refl
-upto-map low n f (x ∷ a) h = go (upto-map low n f a (λ k hk. h (suc k) (omega arith))) (eqb (low x) x) refl
+upto-map low n f (x ∷ a) h = go (upto-map low n f a (h .1)) (eqb (low x) x) refl
   where
     go : Upto (map low a) a → (t : Bool) → eqb (low x) x ≡ t → Upto (low x ∷ map low a) (x ∷ a)
     go w true q = rw (eqb-true (low x) x q) (upto-cons x (map low a) a w)
-    go w false q = inr (inl (omega (arith, f x (h 0 (omega arith)), eqb-false (low x) x q)))
+    go w false q = inr (inl (omega (arith, f x (h .0), eqb-false (low x) x q)))
 
 -- ---- the first of a set
 
@@ -76,7 +102,7 @@ first-one So n l (found a) nothing p q = absurd (q a (p .0))
 first-one So n l nothing (found b) p q = absurd (p b (q .0))
 first-one So n l nothing nothing p q = refl
 
--- THE PROMISE OF A NARROWING: a part of the set that has, for each member of the set, one that is no later
+-- a part of the set that has, for each member of the set, one that is no later
 pub record Covers (Old New : List ℕ → Type 0) : Type 0 where
   pub part : (a : List ℕ) → New a → Old a
   pub cover : (a : List ℕ) → Old a → (b : List ℕ) × New b × Upto b a
@@ -98,13 +124,12 @@ covers-trans {A} {B} {C} f g =
     two : (a : List ℕ) → ((b : List ℕ) × B b × Upto b a) → (b : List ℕ) × C b × Upto b a
     two a k = let l : (b : List ℕ) × C b × Upto b (k .0) = g .cover (k .0) (k .1) in (l .0, l .1, upto-trans (l .0) (k .0) a (l .2) (k .2))
 
--- a narrowing that drops no member
-pub keeps-covers : {Old New : List ℕ → Type 0} → ((a : List ℕ) → New a → Old a) → ((a : List ℕ) → Old a → New a) → Covers Old New
-keeps-covers f g = record { part = f; cover = λ a o. (a, g a o, inl refl) }
+-- a part that drops no member
+pub keeps-covers : {Old New : List ℕ → Type 0} → ((a : List ℕ) → Old a ↔ New a) → Covers Old New
+keeps-covers f = record { part = λ a n. f a .1 n; cover = λ a o. (a, f a .0 o, inl refl) }
 
--- no member: nothing
-pub first-none : {So : List ℕ → Type 0} → ((a : List ℕ) → So a → ⊥) → First So nothing
-first-none f = f
+pub same-first : {Old New : List ℕ → Type 0} → ((a : List ℕ) → Old a ↔ New a) → (r : Found) → First New r → First Old r
+same-first f r p = covers-first (keeps-covers f) r p
 
 -- a set in two parts, the one before the other
 pub record Split (All Here Later : List ℕ → Type 0) : Type 0 where

@@ -1,18 +1,22 @@
--- A search over a box, for each variable the places still open, gives the first member of a set of assignments, by the promise of its narrowing alone.
+-- A search over a box gives the first member of a set of assignments, by the promise of its cuts and its pruning alone.
+--     search                        variable by variable, each through its open places; a choice that is dead is cut; the box is pruned at each choice
+--     tryAll-first                  the first member, where each place of the next variable gives the first of its own
+--     Invariant, invariant-first    what a search keeps from choice to choice; then it gives the first member inside its box
+--     search-same                   cuts that agree on the choices that the search comes to give one answer
+--     Cuts, Prunes                  what a cut promises, and what a pruning promises
+--     search-first                  a search whose cut and pruning keep their promises gives the first member inside its box
 -- Assumes nothing.
 use mathlib.Core.Bool.{Bool, true, false}
-use mathlib.Core.List.{List, [], _∷_, _++_, map, append-nil, append-assoc}
-use mathlib.Core.Path.{_≡_, refl, ap, ap₂, sym, _∙_, subst}
-use mathlib.Core.Logic.{_⊎_, inl, inr, ⊎-elim, _↔_}
-use Prim.Native.Nat.{ℕ, zero, suc, _+_, _≤_, _<_}
+use mathlib.Core.List.{List, [], _∷_, _++_, append-nil}
+use mathlib.Core.Path.{_≡_, refl, ap₂, sym, _∙_}
+use mathlib.Core.Logic.{inl, inr}
+use Prim.Native.Nat.{ℕ, zero, suc, _+_}
 use native.Mathlib.Omega.{arith}
-use lib.ListN.{length, getD, length-append, replicate, length-replicate}
-use Rattle.meaning.specs.Rules.{Found, nothing, found, Below, Before, First}
+use lib.ListN.{length, length-append}
+use Rattle.meaning.specs.Rules.{Found, nothing, found, First}
 use Rattle.meaning.specs.FirstBy.{tryAll, orElse}
-use Rattle.meaning.proofs.Order.{Covers, Split, split-found, split-later, before-not-self, covers-first}
-
-abbrev pub Box : Type 0
-Box = List (List ℕ)
+use Rattle.meaning.proofs.Order.{Covers, split-found, split-later, before-not-self, covers-first}
+use Rattle.meaning.proofs.Box.{Box, Mem, AllIn, Rising, Good, OfRows, of-rows-next, Open, open-split, open-none, open-leaf}
 
 -- ---- the search
 
@@ -26,158 +30,126 @@ unfoldable pub search : (List ℕ → Bool) → (List ℕ → Box → Box) → �
 search dead narrow zero chosen box = elim (dead chosen) [ true ↦ nothing | false ↦ found chosen ]
 search dead narrow (suc n) chosen box = elim (dead chosen) [ true ↦ nothing | false ↦ tryBox (search dead narrow n) chosen (narrow chosen box) ]
 
--- ---- what a box holds
-
-abbrev pub Mem : ℕ → List ℕ → Type 0
-Mem x [] = ⊥
-Mem x (y ∷ l) = (x ≡ y) ⊎ Mem x l
-
-abbrev pub Inside : Box → List ℕ → Type 0
-Inside [] [] = Unit {0}
-Inside [] (x ∷ a) = ⊥
-Inside (l ∷ box) [] = ⊥
-Inside (l ∷ box) (x ∷ a) = Mem x l × Inside box a
-
--- the members of a set that begin with the chosen places and go on inside the box
-pub record Open (So : List ℕ → Type 0) (chosen : List ℕ) (box : Box) (a : List ℕ) : Type 0 where
-  pub rest : List ℕ
-  pub whole : a ≡ chosen ++ rest
-  pub inside : Inside box rest
-  pub so : So a
-
--- places below n, rising
-abbrev pub Above : ℕ → List ℕ → Type 0
-Above x [] = Unit {0}
-Above x (y ∷ l) = (x < y) × Above x l
-
-abbrev pub Rising : List ℕ → Type 0
-Rising [] = Unit {0}
-Rising (x ∷ l) = Above x l × Rising l
-
-abbrev pub Good : ℕ → Box → Type 0
-Good n [] = Unit {0}
-Good n (l ∷ box) = (Rising l × Below n l) × Good n box
-
-pub above-mem : (x y : ℕ) (l : List ℕ) → Above x l → Mem y l → x < y
-above-mem x y [] h m = absurd m
-above-mem x y (z ∷ l) h (inl e) = omega (arith, h .0, e)
-above-mem x y (z ∷ l) h (inr m) = above-mem x y l (h .1) m
-
-before-append : (c a b : List ℕ) → Before (c ++ a) (c ++ b) → Before a b
-before-append [] a b h = h
-before-append (x ∷ c) a b (inl h) = absurd (omega arith)
-before-append (x ∷ c) a b (inr h) = before-append c a b (h .1)
-
-append-same : (c a b : List ℕ) → c ++ a ≡ c ++ b → a ≡ b
-append-same [] a b e = e
-append-same (x ∷ c) a b e = append-same c a b (cc)
-
-pub mem-below : (n x : ℕ) (l : List ℕ) → Below n l → Mem x l → x < n
-mem-below n x [] b m = absurd m
-mem-below n x (y ∷ l) b (inl e) = omega (arith, b .0, e)
-mem-below n x (y ∷ l) b (inr m) = mem-below n x l (b .1) m
-
-below-snoc : (n x : ℕ) (l : List ℕ) → Below n l → x < n → Below n (l ++ (x ∷ []))
-below-snoc n x [] b h = (h, tt)
-below-snoc n x (y ∷ l) b h = (b .0, below-snoc n x l (b .1) h)
-
--- ---- the promises
-
-pub record SearchPromise (So : List ℕ → Type 0) (total limit : ℕ) (dead : List ℕ → Bool) (narrow : List ℕ → Box → Box) : Type 0 where
-  -- a choice that is dead begins no member
-  pub cut : (chosen : List ℕ) → dead chosen ≡ true → (rest : List ℕ) → So (chosen ++ rest) → ⊥
-  -- a whole choice that is not dead is a member
-  pub leaf : (a : List ℕ) → length a ≡ total → Below limit a → dead a ≡ false → So a
-  -- for each member inside the box the new box has one that is no later
-  pub covers : (chosen : List ℕ) (box : Box) → Good limit box → Covers (Open So chosen box) (Open So chosen (narrow chosen box))
-  pub good : (chosen : List ℕ) (box : Box) → Good limit box → Good limit (narrow chosen box)
-  pub long : (chosen : List ℕ) (box : Box) → length (narrow chosen box) ≡ length box
+-- ---- the first member inside a box
 
 module _ (So : List ℕ → Type 0) where
-  -- the next place is tried, and then the places after it
-  pub open-split : (chosen : List ℕ) (x : ℕ) (l : List ℕ) (box : Box) → Above x l
-      → Split (Open So chosen ((x ∷ l) ∷ box)) (Open So (chosen ++ (x ∷ [])) box) (Open So chosen (l ∷ box))
-  open-split chosen x l box up =
-      record {
-        here = λ a o. record { rest = x ∷ o .rest; whole = o .whole ∙ append-assoc chosen (x ∷ []) (o .rest); inside = (inl refl, o .inside); so = o .so };
-        later = λ a o. later′ a (o .rest) (o .whole) (o .inside) (o .so);
-        cases = λ a o. cases′ a (o .rest) (o .whole) (o .inside) (o .so);
-        ordered = λ a b o p w. ordered′ a b (o .rest) (o .whole) (p .rest) (p .whole) (p .inside) w;
-      }
-    where
-      later′ : (a r : List ℕ) → a ≡ chosen ++ r → Inside (l ∷ box) r → So a → Open So chosen ((x ∷ l) ∷ box) a
-      later′ a [] e i s = absurd i
-      later′ a (y ∷ r) e i s = record { rest = y ∷ r; whole = e; inside = (inr (i .0), i .1); so = s }
-
-      cases′ : (a r : List ℕ) → a ≡ chosen ++ r → Inside ((x ∷ l) ∷ box) r → So a → Open So (chosen ++ (x ∷ [])) box a ⊎ Open So chosen (l ∷ box) a
-      cases′ a [] e i s = absurd i
-      cases′ a (y ∷ r) e i s =
-          ⊎-elim
-          (λ q. inl (record { rest = r; whole = e ∙ ap (λ (z : ℕ). chosen ++ z ∷ r) q ∙ sym (append-assoc chosen (x ∷ []) r); inside = i .1; so = s }))
-          (λ m. inr (record { rest = y ∷ r; whole = e; inside = (m, i .1); so = s }))
-          (i .0)
-
-      ordered′ : (a b r : List ℕ) → a ≡ (chosen ++ (x ∷ [])) ++ r → (q : List ℕ) → b ≡ chosen ++ q → Inside (l ∷ box) q → Before b a → ⊥
-      ordered′ a b r e [] f i w = absurd i
-      ordered′ a b r e (y ∷ q) f i w =
-          let g : a ≡ chosen ++ x ∷ r = e ∙ append-assoc chosen (x ∷ []) r in
-          let v : Before (chosen ++ y ∷ q) (chosen ++ x ∷ r) = rw (f, g) at w in
-          ⊎-elim (λ h. omega (arith, h, above-mem x y l up (i .0))) (λ h. omega (arith, h .0, above-mem x y l up (i .0))) (before-append chosen (y ∷ q) (x ∷ r) v)
-
-  -- no place is left for a variable
-  pub open-none : (chosen : List ℕ) (box : Box) (a : List ℕ) → Open So chosen ([] ∷ box) a → ⊥
-  open-none chosen box a o = go (o .rest) (o .inside)
-    where
-      go : (r : List ℕ) → Inside ([] ∷ box) r → ⊥
-      go [] i = i
-      go (x ∷ r) i = i .0
-
-  -- every variable is chosen
-  pub open-leaf : (chosen a : List ℕ) → Open So chosen [] a → a ≡ chosen
-  open-leaf chosen a o = go (o .rest) (o .whole) (o .inside)
-    where
-      go : (r : List ℕ) → a ≡ chosen ++ r → Inside [] r → a ≡ chosen
-      go [] e i = e ∙ append-nil chosen
-      go (x ∷ r) e i = absurd i
-
-  tryAll-first : (next : List ℕ → Found) (chosen l : List ℕ) (box : Box) → Rising l
+  pub tryAll-first : (next : List ℕ → Found) (chosen l : List ℕ) (box : Box) → Rising l
       → ((x : ℕ) → Mem x l → First (Open So (chosen ++ (x ∷ [])) box) (next (chosen ++ (x ∷ []))))
       → First (Open So chosen (l ∷ box)) (tryAll next chosen l)
   unfolding tryAll orElse
-  tryAll-first next chosen [] box up each = open-none chosen box
+  tryAll-first next chosen [] box up each = open-none So chosen box
   tryAll-first next chosen (x ∷ l) box up each =
       go (next (chosen ++ (x ∷ []))) (each x (inl refl)) (tryAll-first next chosen l box (up .1) (λ y m. each y (inr m)))
     where
       go : (r : Found) → First (Open So (chosen ++ (x ∷ [])) box) r → First (Open So chosen (l ∷ box)) (tryAll next chosen l)
           → First (Open So chosen ((x ∷ l) ∷ box)) (orElse r (tryAll next chosen l))
-      go (found a) f rest = split-found (open-split chosen x l box (up .0)) a f
-      go nothing f rest = split-later (open-split chosen x l box (up .0)) f (tryAll next chosen l) rest
+      go (found a) f rest = split-found (open-split So chosen x l box (up .0)) a f
+      go nothing f rest = split-later (open-split So chosen x l box (up .0)) f (tryAll next chosen l) rest
 
-  module _ {total limit : ℕ} {dead : List ℕ → Bool} {narrow : List ℕ → Box → Box} (p : SearchPromise So total limit dead narrow) where
-    -- the search answers the first member inside its box
-    pub search-first : (n : ℕ) (chosen : List ℕ) (box : Box) → length chosen + n ≡ total → length box ≡ n → Good limit box → Below limit chosen
-        → First (Open So chosen box) (search dead narrow n chosen box)
-    unfolding search tryBox
-    search-first zero chosen [] t h g b = go (dead chosen) refl
-      where
-        go : (d : Bool) → dead chosen ≡ d → First (Open So chosen []) (search dead narrow zero chosen [])
-        go true e = rw (e, search) (λ a o. p .cut chosen e (o .rest) (rw (o .whole) at (o .so)))
-        go false e =
-            rw (e, search) (
-              record { rest = []; whole = sym (append-nil chosen); inside = tt; so = p .leaf chosen (omega arith) b e },
-              λ a o w. before-not-self chosen (rw (open-leaf chosen a o) at w),
-            )
-    search-first zero chosen (l ∷ box) t h g b = absurd (omega arith)
-    search-first (suc n) chosen box t h g b = go (dead chosen) refl (search-first n)
-      where
-        go : (d : Bool) → dead chosen ≡ d
-            → ((c : List ℕ) (x : Box) → length c + n ≡ total → length x ≡ n → Good limit x → Below limit c → First (Open So c x) (search dead narrow n c x))
-            → First (Open So chosen box) (search dead narrow (suc n) chosen box)
-        go true e ih = rw (e, search) (λ a o. p .cut chosen e (o .rest) (rw (o .whole) at (o .so)))
-        go false e ih = rw (e, search) (covers-first (p .covers chosen box g) (tryBox (search dead narrow n) chosen (narrow chosen box)) (inner (narrow chosen box) (p .good chosen box g) (p .long chosen box ∙ h)))
-          where
-            inner : (new : Box) → Good limit new → length new ≡ suc n → First (Open So chosen new) (tryBox (search dead narrow n) chosen new)
-            inner [] gd ln = absurd (omega arith)
-            inner (l ∷ new) gd ln =
-                tryAll-first (λ c. search dead narrow n c new) chosen l new (gd .0 .0)
-                (λ x m. ih (chosen ++ (x ∷ [])) new (omega (arith, length-append chosen (x ∷ []))) (omega arith) (gd .1) (below-snoc limit x chosen b (mem-below limit x l (gd .0 .1) m)))
+-- ---- the search, by an invariant of its choices
+
+-- Reached holds of each choice that the search comes to, and of the box that it then has
+pub record Invariant (So : List ℕ → Type 0) (total : ℕ) (Reached : List ℕ → Box → Type 0) (dead : List ℕ → Bool) (narrow : List ℕ → Box → Box) : Type 0 where
+  -- a choice that is dead begins no member
+  pub cut : (chosen : List ℕ) → dead chosen ≡ true → (rest : List ℕ) → So (chosen ++ rest) → ⊥
+  -- a whole choice that is not dead is a member
+  pub leaf : (a : List ℕ) → length a ≡ total → Reached a [] → dead a ≡ false → So a
+  -- for each member inside the box the new box has one that is no later
+  pub covers : (chosen : List ℕ) (box : Box) → Reached chosen box → Covers (Open So chosen box) (Open So chosen (narrow chosen box))
+  pub long : (chosen : List ℕ) (box : Box) → length (narrow chosen box) ≡ length box
+  -- the places of the next variable rise, and each may be chosen
+  pub next : (chosen : List ℕ) (box : Box) → Reached chosen box → (l : List ℕ) (new : Box) → narrow chosen box ≡ l ∷ new
+      → Rising l × ((x : ℕ) → Mem x l → Reached (chosen ++ (x ∷ [])) new)
+
+module _ (So : List ℕ → Type 0) {total : ℕ} {Reached : List ℕ → Box → Type 0} {dead : List ℕ → Bool} {narrow : List ℕ → Box → Box} (p : Invariant So total Reached dead narrow) where
+  -- the search gives the first member inside its box
+  pub invariant-first : (n : ℕ) (chosen : List ℕ) (box : Box) → length chosen + n ≡ total → length box ≡ n → Reached chosen box
+      → First (Open So chosen box) (search dead narrow n chosen box)
+  unfolding search tryBox
+  invariant-first zero chosen [] t h i = go (dead chosen) refl
+    where
+      go : (d : Bool) → dead chosen ≡ d → First (Open So chosen []) (search dead narrow zero chosen [])
+      go true e = rw (e, search) (λ a o. p .cut chosen e (o .rest) (rw (o .whole) at (o .so)))
+      go false e =
+          rw (e, search) (
+            record { rest = []; whole = sym (append-nil chosen); inside = tt; so = p .leaf chosen (omega arith) i e },
+            λ a o w. before-not-self chosen (rw (open-leaf So chosen a o) at w),
+          )
+  invariant-first zero chosen (l ∷ box) t h i = absurd (omega arith)
+  invariant-first (suc n) chosen box t h i = go (dead chosen) refl (invariant-first n)
+    where
+      go : (d : Bool) → dead chosen ≡ d
+          → ((c : List ℕ) (x : Box) → length c + n ≡ total → length x ≡ n → Reached c x → First (Open So c x) (search dead narrow n c x))
+          → First (Open So chosen box) (search dead narrow (suc n) chosen box)
+      go true e ih = rw (e, search) (λ a o. p .cut chosen e (o .rest) (rw (o .whole) at (o .so)))
+      go false e ih =
+          rw (e, search) (covers-first (p .covers chosen box i) (tryBox (search dead narrow n) chosen (narrow chosen box)) (inner (narrow chosen box) refl (p .long chosen box ∙ h)))
+        where
+          inner : (new : Box) → narrow chosen box ≡ new → length new ≡ suc n → First (Open So chosen new) (tryBox (search dead narrow n) chosen new)
+          inner [] f ln = absurd (omega arith)
+          inner (l ∷ new) f ln =
+              tryAll-first So (λ c. search dead narrow n c new) chosen l new (p .next chosen box i l new f .0)
+              (λ x m. ih (chosen ++ (x ∷ [])) new (omega (arith, length-append chosen (x ∷ []))) (omega arith) (p .next chosen box i l new f .1 x m))
+
+-- ---- two cuts that agree on the choices that a search comes to
+
+tryAll-same : (next other : List ℕ → Found) (chosen l : List ℕ) → ((x : ℕ) → next (chosen ++ (x ∷ [])) ≡ other (chosen ++ (x ∷ [])))
+    → tryAll next chosen l ≡ tryAll other chosen l
+unfolding tryAll
+tryAll-same next other chosen [] f = refl
+tryAll-same next other chosen (x ∷ l) f = ap₂ orElse (f x) (tryAll-same next other chosen l f)
+
+module _ (dead late : List ℕ → Bool) (narrow : List ℕ → Box → Box) (Reached : List ℕ → Type 0)
+    (same : (chosen : List ℕ) → Reached chosen → dead chosen ≡ late chosen)
+    (next : (chosen : List ℕ) → Reached chosen → dead chosen ≡ false → (x : ℕ) → Reached (chosen ++ (x ∷ []))) where
+  tryBox-same : (n : ℕ) (chosen : List ℕ) (box : Box)
+      → ((x : ℕ) (new : Box) → search dead narrow n (chosen ++ (x ∷ [])) new ≡ search late narrow n (chosen ++ (x ∷ [])) new)
+      → tryBox (search dead narrow n) chosen box ≡ tryBox (search late narrow n) chosen box
+  unfolding tryBox
+  tryBox-same n chosen [] f = refl
+  tryBox-same n chosen (l ∷ box) f = tryAll-same (λ c. search dead narrow n c box) (λ c. search late narrow n c box) chosen l (λ x. f x box)
+
+  pub search-same : (n : ℕ) (chosen : List ℕ) (box : Box) → Reached chosen → search dead narrow n chosen box ≡ search late narrow n chosen box
+  unfolding search
+  search-same zero chosen box r = rw (same chosen r, search) refl
+  search-same (suc n) chosen box r = go (dead chosen) refl (λ c x. search-same n c x)
+    where
+      go : (b : Bool) → dead chosen ≡ b → ((c : List ℕ) (x : Box) → Reached c → search dead narrow n c x ≡ search late narrow n c x)
+          → search dead narrow (suc n) chosen box ≡ search late narrow (suc n) chosen box
+      go true e ih = let f : late chosen ≡ true = sym (same chosen r) ∙ e in rw (e, f, search) refl
+      go false e ih =
+          let f : late chosen ≡ false = sym (same chosen r) ∙ e in
+          rw (e, f, search) (tryBox-same n chosen (narrow chosen box) (λ x new. ih (chosen ++ (x ∷ [])) new (next chosen r e x)))
+
+-- ---- the search within some rows
+
+-- what a cut promises
+pub record Cuts (So : List ℕ → Type 0) (total : ℕ) (rows : List ℕ) (dead : List ℕ → Bool) : Type 0 where
+  -- a choice that is dead begins no member
+  pub cut : (chosen : List ℕ) → dead chosen ≡ true → (rest : List ℕ) → So (chosen ++ rest) → ⊥
+  -- a whole choice of rows that is not dead is a member
+  pub leaf : (a : List ℕ) → length a ≡ total → AllIn rows a → dead a ≡ false → So a
+
+-- what a pruning promises: for each member inside the box the new box has one that is no later
+pub record Prunes (So : List ℕ → Type 0) (rows : List ℕ) (narrow : List ℕ → Box → Box) : Type 0 where
+  pub covers : (chosen : List ℕ) (box : Box) → OfRows rows chosen box → Covers (Open So chosen box) (Open So chosen (narrow chosen box))
+  pub good : (chosen : List ℕ) (box : Box) → Good rows box → Good rows (narrow chosen box)
+  pub long : (chosen : List ℕ) (box : Box) → length (narrow chosen box) ≡ length box
+
+module _ (So : List ℕ → Type 0) (total : ℕ) (rows : List ℕ) (dead : List ℕ → Bool) (narrow : List ℕ → Box → Box) where
+  of-rows-invariant : Cuts So total rows dead → Prunes So rows narrow → Invariant So total (OfRows rows) dead narrow
+  of-rows-invariant c p =
+      record {
+        cut = c .cut;
+        leaf = λ a h w. c .leaf a h (w .0);
+        covers = p .covers;
+        long = p .long;
+        next = λ chosen box w l new e.
+            let g : Good rows (l ∷ new) = rw e at (p .good chosen box (w .1)) in
+            (g .0 .0, of-rows-next rows chosen l new (w .0) g);
+      }
+
+  -- the search law
+  pub search-first : Cuts So total rows dead → Prunes So rows narrow → (box : Box) → length box ≡ total → Good rows box
+      → First (Open So [] box) (search dead narrow total [] box)
+  search-first c p box h g = invariant-first So (of-rows-invariant c p) total [] box (omega arith) h (tt, g)

@@ -10,4 +10,5 @@ pub mod Columns
 pub mod ByTable
 pub mod Values
 pub mod FirstBy
+pub mod Sheet
 pub mod Demands

@@ -1,0 +1,48 @@
+-- The plain search over a table of representatives gives the first breach, or none exactly when there is none.
+--     numbers-right     the test by numbers is right about assignments of representatives
+--     computed-first    what is computed answers
+-- Assumes nothing.
+use mathlib.Core.List.{List, [], _∷_}
+use mathlib.Core.Path.{_≡_}
+use mathlib.Core.Logic.{_⊎_, inl, inr, ⊎-elim, _↔_}
+use Prim.Native.Nat.{ℕ, _+_, _≤_, _<_}
+use native.Mathlib.Omega.{arith}
+use lib.ListN.{length}
+use Rattle.meaning.specs.Context.{Context, equations, differences}
+use Rattle.meaning.specs.Equality.{Representatives}
+use Rattle.meaning.specs.Rules.{Clause, choice, rangeOf, variables, Answers}
+use Rattle.meaning.specs.Replies.{fits, long}
+use Rattle.meaning.specs.Formed.{Formed}
+use Rattle.meaning.specs.ByTable.{apartBy}
+use Rattle.meaning.specs.FirstBy.{breaks, firstBy}
+use Rattle.meaning.specs.Sheet.{represents}
+use Rattle.meaning.proofs.Model.{Closed}
+use Rattle.meaning.proofs.Promised.{representatives-closed}
+use Rattle.meaning.proofs.Box.{mem-below, mem-all, AllIn, Mem}
+use Rattle.meaning.proofs.Numbered.{all-hold-numbers, apart-numbers, Means, means-choice}
+use Rattle.meaning.proofs.Seek.{starts, lowest-below, lowest-self}
+use Rattle.meaning.proofs.Finds.{RightTest, first-breach}
+
+module _ (c : Context) (k : Clause) (formed : Formed c k) (rep : ℕ → ℕ) (represents : Representatives c rep) (offset : ℕ) (fits : length (c .rows) ≤ offset) where
+  closed : Closed (c .rows) (equations c) rep
+  closed = representatives-closed c (formed .fit) rep represents
+
+  pub numbers-right : RightTest c k rep (breaks (apartBy rep (differences c)) (c .rows) rep offset k)
+  unfolding breaks
+  numbers-right a whole inside =
+      all-hold-numbers c rep (formed .fit .ordered) (formed .fit .within) closed offset fits (k .patterns) (formed .placed) a (choice (rangeOf c) a) means
+      (apartBy rep (differences c))
+      (apart-numbers c rep (formed .fit .ordered) (formed .fit .within) closed offset fits (k .patterns) (formed .placed) a (choice (rangeOf c) a) means (formed .fit .apart))
+      (k .literals)
+      (formed .named)
+    where
+      start : (x : ℕ) → Mem x a → (x < length (c .rows)) × (rep x ≡ x)
+      start x m =
+          let i : Mem x (starts (c .rows) rep) = mem-all (starts (c .rows) rep) x a inside m in
+          (mem-below (length (c .rows)) x (starts (c .rows) rep) (lowest-below rep (length (c .rows)) 0 (length (c .rows)) (omega arith)) i, lowest-self rep x 0 (length (c .rows)) i)
+
+      means : (v : ℕ) → v < variables (k .patterns) → Means (c .rows) rep a (choice (rangeOf c) a) v
+      means v h = means-choice (c .rows) (equations c) rep (formed .fit .ordered) (formed .fit .within) closed a start v (omega arith)
+
+  pub computed-first : Answers c k (firstBy (apartBy rep (differences c)) (c .rows) rep offset k)
+  computed-first = first-breach c k rep closed (apartBy rep (differences c)) offset numbers-right

@@ -1,0 +1,87 @@
+-- The sheet of worked examples: texts with what the definitions say of them.
+--     Example, Shown     a text with the finder's reply, with its rows' representatives, or with two rows that are equal
+--     sheet              the twelve cases of the rule paper
+--     further            cases that show what is easily got wrong
+-- Assumes nothing.
+use mathlib.Core.List.{List, [], _∷_}
+use mathlib.Core.Path.{_≡_}
+use Prim.Native.Nat.{ℕ, _<_}
+use Prim.Native.Char.{code}
+use Prim.Native.String as S
+use lib.ListN.{length}
+use Rattle.meaning.specs.Context.{termAt}
+use Rattle.meaning.specs.Equality.{EqualIn, Representatives, repAt}
+use Rattle.meaning.specs.Text.{narrow, Read, rowsOf, taken, read}
+use Rattle.meaning.specs.Replies.{refusal, Reply, breach, none, refused, Replies}
+
+-- the bytes of a quoted text whose characters are ASCII
+unfoldable pub bytes : S.String → List ℕ
+bytes S.[] = []
+bytes (S._∷_ c s) = code c ∷ bytes s
+
+pub data Example : Type 0 where
+  gets : S.String → Reply → Example
+  represents : S.String → List ℕ → Example
+  equates : S.String → ℕ → ℕ → Example
+
+abbrev pub Shown : Example → Type 0
+Shown (gets text r) = Replies narrow (bytes text) r
+Shown (represents text l) =
+    (s : Read) × (read narrow (bytes text) ≡ taken s) × (length l ≡ length (rowsOf s)) × Representatives (s .ledger .context) (repAt l)
+Shown (equates text i j) =
+    (s : Read)
+    × (read narrow (bytes text) ≡ taken s)
+    × (i < length (rowsOf s))
+    × (j < length (rowsOf s))
+    × EqualIn (s .ledger .context) (termAt (rowsOf s) i) (termAt (rowsOf s) j)
+
+abbrev pub AllShown : List Example → Type 0
+AllShown [] = Unit {0}
+AllShown (e ∷ es) = Shown e × AllShown es
+
+unfoldable pub sheet : List Example
+sheet =
+    -- P1: the lullaby
+    gets
+    "01001000\n01001100\n01001200\n01001300\n0100200100\n0100210100\n0100210101\n020401\n020503\n020602\n030203\n0400\n0401\n0500200100\n0500210100\n0500210101\n060201\n070304\n"
+    (breach (0 ∷ 1 ∷ []))
+    -- P2: f(c) = a, f(a) = b, f(a) and f(b) differ; f(x) = a, f(y) unequal b
+    ∷ gets
+    "01000100\n01000200\n01000300\n0101010102\n0101010100\n0101010101\n020300\n020401\n030405\n0400\n0401\n0501010100\n05000100\n0501010101\n05000200\n060203\n070405\n"
+    (breach (2 ∷ 1 ∷ []))
+    -- P3: P2 without the difference
+    ∷ gets
+    "01000100\n01000200\n01000300\n0101010102\n0101010100\n0101010101\n020300\n020401\n0400\n0401\n0501010100\n05000100\n0501010101\n05000200\n060203\n070405\n"
+    none
+    -- P4: one row a; f(x) = f(y)
+    ∷ gets "01000100\n0400\n0401\n0501010100\n0501010101\n060203\n" (breach (0 ∷ 0 ∷ []))
+    -- P5: rows a, b; f(x) = f(b)
+    ∷ gets "01000100\n01000200\n0400\n05000200\n0501010100\n0501010101\n060203\n" (breach (1 ∷ []))
+    -- P6: one row a, no difference; x unequal y
+    ∷ gets "01000100\n0400\n0401\n070001\n" none
+    -- P7: no rows; x = x, and a = a with no variable
+    ∷ gets "0400\n060000\n" none
+    ∷ gets "05000100\n060000\n" (breach [])
+    -- P8: a and a differ; x = x
+    ∷ gets "01000100\n030000\n0400\n060000\n" (refused (refusal 9 1))
+    -- P9: f applied up to five times; row 3 = row 0, row 5 = row 0
+    ∷ represents "01000100\n0101010100\n0101010101\n0101010102\n0101010103\n0101010104\n020300\n020500\n" (0 ∷ 0 ∷ 0 ∷ 0 ∷ 0 ∷ 0 ∷ [])
+    -- P10: the constant a twice
+    ∷ equates "01000100\n01000100\n" 0 1
+    -- P11: g(f(a), h(b)) and g(f(b), h(a)) differ; x unequal a
+    ∷ gets
+    "01000100\n01000200\n0101010100\n0101020101\n0101010101\n0101020100\n010201020203\n010201020405\n030607\n0400\n05000100\n070001\n"
+    none
+    -- P12: one row a; x = f(x)
+    ∷ gets "01000100\n0400\n0501010100\n060001\n" none
+    ∷ []
+
+unfoldable pub further : List Example
+further =
+    -- rows a, b that differ; x unequal y
+    gets "01000100\n01000200\n030001\n0400\n0401\n070001\n" (breach (0 ∷ 1 ∷ []))
+    -- a pattern row with a context row's symbol and another count
+    ∷ gets "01000100\n0400\n0500010100\n060000\n" (refused (refusal 7 3))
+    -- row a; x0, x1, f(x1), f(x0), f(x0); row 4 = row 3, row 2 = row 3
+    ∷ gets "01000100\n0400\n0401\n0501010101\n0501010100\n0501010100\n060403\n060203\n" (breach (0 ∷ 0 ∷ []))
+    ∷ []
