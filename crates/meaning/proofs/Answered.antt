@@ -4,14 +4,13 @@
 --     normalise-writes, writes-one        the same of the normaliser, lent bytes included
 -- Assumes nothing.
 use mathlib.Core.Bool.{Bool, true, false}
-use mathlib.Core.List.{List, [], _∷_, _++_, map}
-use mathlib.Core.Path.{_≡_, refl, ap, ap₂, sym, _∙_, subst}
-use mathlib.Core.Logic.{_⊎_, inl, inr, ⊎-elim, _↔_}
-use Prim.Native.Nat.{ℕ, zero, suc, _+_, _≤_, _<_}
+use mathlib.Core.List.{List, [], _∷_}
+use mathlib.Core.Path.{_≡_, refl, ap, sym, _∙_, subst}
+use Prim.Native.Nat.{ℕ, suc}
 use native.Mathlib.Omega.{arith}
-use lib.Dec.{eqb, leb}
+use lib.Dec.{leb}
 use borrow.Author.Tests.{leb-true, leb-false}
-use lib.ListN.{length, drop}
+use lib.ListN.{length}
 use Rattle.meaning.specs.Context.{Context, differences}
 use Rattle.meaning.specs.Rules.{Clause, Answers, Found, Literal}
 use Rattle.meaning.specs.Text.{narrow, read, Reading, faulty, taken, Limits}

@@ -5,7 +5,7 @@ use mathlib.Core.Bool.{Bool, true, false, _&&_}
 use mathlib.Core.List.{List, [], _∷_, map}
 use Prim.Native.Nat.{ℕ, zero, suc}
 use lib.Dec.{eqb, ltb}
-use lib.ListN.{length, getD}
+use lib.ListN.{length}
 use Rattle.meaning.specs.Context.{Row, rowAt, leftAt, rightAt}
 use Rattle.meaning.specs.Equality.{repAt}
 use Rattle.meaning.specs.ByTable.{sameList}

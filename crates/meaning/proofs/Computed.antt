@@ -2,7 +2,7 @@
 --     replyTo      the reply to a text
 --     normalise    the answer to a text, and the lent space afterwards
 -- Assumes nothing.
-use mathlib.Core.Bool.{Bool, true, false}
+use mathlib.Core.Bool.{true, false}
 use mathlib.Core.List.{List, [], _∷_, _++_}
 use Prim.Native.Nat.{ℕ, suc}
 use lib.Dec.{leb}

@@ -2,23 +2,19 @@
 --     numbers-right     the test by numbers is right about assignments of representatives
 --     computed-first    what is computed answers
 -- Assumes nothing.
-use mathlib.Core.List.{List, [], _∷_}
 use mathlib.Core.Path.{_≡_}
-use mathlib.Core.Logic.{_⊎_, inl, inr, ⊎-elim, _↔_}
-use Prim.Native.Nat.{ℕ, _+_, _≤_, _<_}
+use Prim.Native.Nat.{ℕ, _≤_, _<_}
 use native.Mathlib.Omega.{arith}
 use lib.ListN.{length}
 use Rattle.meaning.specs.Context.{Context, equations, differences}
 use Rattle.meaning.specs.Equality.{Representatives}
 use Rattle.meaning.specs.Rules.{Clause, choice, rangeOf, variables, Answers}
-use Rattle.meaning.specs.Replies.{fits, long}
 use Rattle.meaning.specs.Formed.{Formed}
 use Rattle.meaning.specs.ByTable.{apartBy}
 use Rattle.meaning.specs.FirstBy.{breaks, firstBy}
-use Rattle.meaning.specs.Sheet.{represents}
 use Rattle.meaning.proofs.Model.{Closed}
 use Rattle.meaning.proofs.Promised.{representatives-closed}
-use Rattle.meaning.proofs.Box.{mem-below, mem-all, AllIn, Mem}
+use Rattle.meaning.proofs.Box.{mem-below, mem-all, Mem}
 use Rattle.meaning.proofs.Numbered.{all-hold-numbers, apart-numbers, Means, means-choice}
 use Rattle.meaning.proofs.Seek.{starts, lowest-below, lowest-self}
 use Rattle.meaning.proofs.Finds.{RightTest, first-breach}

@@ -3,14 +3,13 @@
 --     demands-reply                                           and a finder that meets demands 1 and 2 replies as defined
 --     no-..                                                   a candidate that is shut out, by the demand in its statement
 -- Assumes nothing.
-use mathlib.Core.Bool.{Bool, true, false}
-use mathlib.Core.List.{List, [], _∷_, _++_}
+use mathlib.Core.List.{List, [], _∷_}
 use mathlib.Core.Path.{_≡_, refl, ap, ap₂, sym, _∙_, subst}
-use mathlib.Core.Logic.{_⊎_, inl, inr, ⊎-elim, _↔_}
-use Prim.Native.Nat.{ℕ, zero, suc, _+_, _≤_, _<_}
+use mathlib.Core.Logic.{_↔_}
+use Prim.Native.Nat.{ℕ, zero, suc, _<_}
 use native.Mathlib.Omega.{arith}
 use borrow.Author.Tests.{le-leb}
-use lib.ListN.{length, drop, getD, replicate}
+use lib.ListN.{length, replicate}
 use Rattle.meaning.specs.Context.{same, Row, Statement, Context, differences, differencesOf, termAt, node, stop, terms, grow, pick, equationsOf, equations}
 use Rattle.meaning.specs.Equality.{reflexive, EqualIn, given, repAt}
 use Rattle.meaning.specs.Rules.{found, nothing, equal, variables}

@@ -23,7 +23,7 @@ use Rattle.meaning.specs.FirstBy.{breaks, firstBy}
 use Rattle.meaning.proofs.Table.{length-terms}
 use Rattle.meaning.proofs.Model.{Closed}
 use Rattle.meaning.proofs.Order.{Covers, covers-first, covers-trans, keeps-covers, same-first, first-one}
-use Rattle.meaning.proofs.Box.{mem-below, Box, Mem, AllIn}
+use Rattle.meaning.proofs.Box.{mem-below, Box, AllIn}
 use Rattle.meaning.proofs.Search.{Prunes, search}
 use Rattle.meaning.proofs.Narrow.{KeepsAll, keeps-all-covers, keeps-all-part, prunes-same}
 use Rattle.meaning.proofs.From.{AtOrAfter}

@@ -20,7 +20,7 @@ use borrow.Author.Tests.{eqb-true, eqb-false, eq-eqb}
 use lib.ListN.{length, getD, List·getD-append}
 use lib.Seq.{getD-append-seam}
 use Rattle.meaning.specs.Context.{Term, more, node, Row, term₀, pick}
-use Rattle.meaning.specs.Rules.{Pattern, variable, apply, variables, instance, fill, instances, Below}
+use Rattle.meaning.specs.Rules.{Pattern, variable, apply, instance, fill, instances, Below}
 use Rattle.meaning.specs.Formed.{Placed, AllPlaced}
 use Rattle.meaning.specs.Values.{highest, levelOf, levelsFrom, levels, rowsAt, patternAt, Numbering, step, number, unread, stages}
 use Rattle.meaning.proofs.Lists.{length-snoc}

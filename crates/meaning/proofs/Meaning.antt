@@ -1,14 +1,14 @@
 -- Two ground terms are equal just where a closed table gives them one value.
 -- Assumes nothing.
 use mathlib.Core.Bool.{Bool, true, false, _&&_}
-use mathlib.Core.List.{List, [], _∷_, _++_, map}
-use mathlib.Core.Path.{_≡_, refl, ap, ap₂, sym, _∙_, subst, subst₂}
-use mathlib.Core.Logic.{_⊎_, inl, inr, ⊎-elim, _↔_}
+use mathlib.Core.List.{List, [], _∷_, map}
+use mathlib.Core.Path.{_≡_, refl, ap, ap₂, sym, _∙_, subst}
+use mathlib.Core.Logic.{_⊎_, inl, inr, _↔_}
 use Prim.Native.Nat.{ℕ, zero, suc, _+_, _≤_, _<_}
 use native.Mathlib.Omega.{arith}
 use lib.Dec.{eqb}
-use borrow.Author.Tests.{eqb-true, eqb-false, eq-eqb, ne-eqb}
-use lib.ListN.{length, getD}
+use borrow.Author.Tests.{eqb-true, eq-eqb}
+use lib.ListN.{length}
 use Rattle.meaning.specs.Context.{Row, stop, more, rowAt, pick, termAt, terms, Term, Terms, node}
 use Rattle.meaning.specs.Equality.{Equal, given, reflexive, symmetric, transitive, congruent, Sames, Stated, same-stop, same-more}
 use Rattle.meaning.specs.Rules.{Below}

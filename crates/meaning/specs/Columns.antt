@@ -2,7 +2,7 @@
 --     contextFrom, clauseFrom                what columns say, with how many rows and statements, or pattern rows and literals, they hold
 --     pad, fours, symbolsOf .. literalKind   the columns of some rows, statements, pattern rows and literals
 -- Assumes nothing.
-use mathlib.Core.Bool.{Bool, true, false}
+use mathlib.Core.Bool.{true, false}
 use mathlib.Core.List.{List, [], _∷_, _++_, map}
 use Prim.Native.Nat.{ℕ, zero, suc, _-_, _*_}
 use lib.Dec.{eqb}
