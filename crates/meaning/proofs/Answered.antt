@@ -1,4 +1,5 @@
 -- What is computed is what the definitions ask for: each text has a reply that answers it and an answer of the normaliser, and only one.
+--     verdict-judged, settles-by          by any table of representatives the reply, and the normal text, are the right ones
 --     judge-judged, replyTo-replies       the computed reply is the reply
 --     judged-one, replies-one             and there is no other
 --     normalise-writes, writes-one        the same of the normaliser, lent bytes included
@@ -6,13 +7,14 @@
 use mathlib.Core.Bool.{Bool, true, false}
 use mathlib.Core.List.{List, [], _∷_}
 use mathlib.Core.Path.{_≡_, refl, ap, sym, _∙_, subst}
-use Prim.Native.Nat.{ℕ, suc}
+use Prim.Native.Nat.{ℕ, suc, _≤_}
 use native.Mathlib.Omega.{arith}
 use lib.Dec.{leb}
 use borrow.Author.Tests.{leb-true, leb-false}
 use lib.ListN.{length}
 use Rattle.meaning.specs.Context.{Context, differences}
-use Rattle.meaning.specs.Rules.{Clause, Answers, Found, Literal}
+use Rattle.meaning.specs.Equality.{Representatives}
+use Rattle.meaning.specs.Rules.{Clause, Found, Literal}
 use Rattle.meaning.specs.Text.{narrow, read, Reading, faulty, taken, Limits}
 use Rattle.meaning.specs.Writing.{contextText, normalOf}
 use Rattle.meaning.specs.Replies.{Judged, empty, clashes, answers, Replies, RepliesTo, Reply, refused, refusal, replyOf, Normal, normal, Normalised, Settled, contradicts, abnormal, settles, Normalises, NormalisesTo, Written, Leaves, fits, short, stays, Writes}
@@ -24,25 +26,29 @@ use Rattle.meaning.proofs.Apartness.{clash-first, clash-clear, first-cl
 use Rattle.meaning.proofs.Finds.{answers-one}
 use Rattle.meaning.proofs.Taken.{read-formed}
 use Rattle.meaning.proofs.Agreement.{normal-one}
-use Rattle.meaning.proofs.Computed.{repOf, judge, verdict, replyTo, replyOn, settled, normalise, leave, normalOn}
+use Rattle.meaning.proofs.Computed.{verdict, judge, repOf, replyTo, replyOn, settled, normalise, leave, normalOn}
 use Rattle.meaning.proofs.Computes.{computed-first}
 
-answered : (c : Context) (k : Clause) → Formed c k → Answers c k (firstBy (apartBy (repOf c) (differences c)) (c .rows) (repOf c) (length (c .rows)) k)
-answered c k f = computed-first c k f (repOf c) (closing-represents c (f .fit)) (length (c .rows)) (omega arith)
+-- by any table of representatives, and with the numbers outside from any offset that is no row
+module _ (c : Context) (k : Clause) (formed : Formed c k) (rep : ℕ → ℕ) (represents : Representatives c rep) (offset : ℕ) (high : length (c .rows) ≤ offset) where
+  abbrev reply : Found
+  reply = firstBy (apartBy rep (differences c)) (c .rows) rep offset k
+
+  pub verdict-judged : Judged c k (verdict (k .literals) (clashOf rep (differences c)) reply)
+  unfolding verdict
+  verdict-judged = go (k .literals) refl (clashOf rep (differences c)) refl
+    where
+      go : (ls : List Literal) → k .literals ≡ ls → (x : Clashing) → clashOf rep (differences c) ≡ x → Judged c k (verdict ls x reply)
+      go [] e x t = empty e
+      go (l ∷ ls) e (first n) t =
+          clashes (λ z. absurd (let y : _≡_ {A = ℕ} 0 1 = cc in omega arith)) n (clash-first c (formed .fit) rep represents n t)
+      go (l ∷ ls) e clear t =
+          answers (λ z. absurd (let y : _≡_ {A = ℕ} 0 1 = cc in omega arith)) (clash-clear c (formed .fit) rep represents t) reply
+          (computed-first c k formed rep represents offset high)
 
 pub judge-judged : (c : Context) (k : Clause) → Formed c k → Judged c k (judge c k)
-unfolding judge verdict
-judge-judged c k f = go (k .literals) refl (clashOf (repOf c) (differences c)) refl
-  where
-    reply : Found
-    reply = firstBy (apartBy (repOf c) (differences c)) (c .rows) (repOf c) (length (c .rows)) k
-
-    go : (ls : List Literal) → k .literals ≡ ls → (x : Clashing) → clashOf (repOf c) (differences c) ≡ x → Judged c k (verdict ls x reply)
-    go [] e x t = empty e
-    go (l ∷ ls) e (first n) t =
-        clashes (λ z. absurd (let y : _≡_ {A = ℕ} 0 1 = cc in omega arith)) n (clash-first c (f .fit) (repOf c) (closing-represents c (f .fit)) n t)
-    go (l ∷ ls) e clear t =
-        answers (λ z. absurd (let y : _≡_ {A = ℕ} 0 1 = cc in omega arith)) (clash-clear c (f .fit) (repOf c) (closing-represents c (f .fit)) t) reply (answered c k f)
+unfolding judge
+judge-judged c k f = verdict-judged c k f (repOf c) (closing-represents c (f .fit)) (length (c .rows)) (omega arith)
 
 pub replyTo-replies : (text : List ℕ) → Replies narrow text (replyTo text)
 unfolding replyTo replyOn
@@ -103,11 +109,15 @@ writes-one L text lent a b s t p q =
     (subst (λ (r : Normalised). Leaves lent r a s) (normalises-one L text (p .result) (q .result) (p .normalises) (q .normalises)) (p .leaves))
     (q .leaves)
 
+-- by any table of representatives
+pub settles-by : (c : Context) → Fit c → (rep : ℕ → ℕ) → Representatives c rep → clashOf rep (differences c) ≡ clear
+    → Settled c (normal (contextText (normalOf rep c)))
+settles-by c f rep w e = settles (clash-clear c f rep w e) (contextText (normalOf rep c)) (rep, w, refl)
+
 settled-settles : (c : Context) → Fit c → (x : Clashing) → clashOf (repOf c) (differences c) ≡ x → Settled c (settled c x)
 unfolding settled
 settled-settles c f (first n) e = contradicts n (clash-first c f (repOf c) (closing-represents c f) n e)
-settled-settles c f clear e =
-    settles (clash-clear c f (repOf c) (closing-represents c f) e) (contextText (normalOf (repOf c) c)) (repOf c, closing-represents c f, refl)
+settled-settles c f clear e = settles-by c f (repOf c) (closing-represents c f) e
 
 pub normalOn-normalises : (text : List ℕ) → Normalises narrow text (normalOn (read narrow text))
 unfolding normalOn
