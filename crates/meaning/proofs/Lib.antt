@@ -34,6 +34,7 @@ pub mod Bounds
 pub mod Constants
 pub mod ReadBack
 pub mod ClauseLines
+pub mod Padded
 pub mod Sorted
 pub mod Joins
 pub mod Pairs
