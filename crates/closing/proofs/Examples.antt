@@ -1,0 +1,121 @@
+-- The contract of `close` on small contexts of the sheet.
+--     p9-zero     rows a, f(a) .. f applied five times; rows 3 and 5 stated equal to row 0: each of the six places holds 0
+--     p10-zero    the constant a twice: both places hold 0
+-- Assumes nothing.
+use mathlib.Core.Bool.{true}
+use mathlib.Core.List.{List, [], _∷_, map}
+use mathlib.Core.Path.{_≡_, refl}
+use Prim.Native.Nat.{ℕ, zero, suc, _<_}
+use native.Mathlib.Omega.{arith}
+use lib.ListN.{length}
+use Rattle.meaning.specs.Context.{Row, Context, same, Term, node, stop, more, pick, grow, terms, termAt, equationsOf}
+use Rattle.meaning.specs.Equality.{EqualIn, given, reflexive, symmetric, transitive, congruent, same-stop, same-more, repAt, Promise}
+use Rattle.meaning.specs.Columns.{contextFrom, rowsFrom, statementsFrom, statementOf, pad, fours, symbolsOf, countsOf, argumentsOf, kindOf, firstOf, secondOf}
+use Rattle.closing.specs.declared.Answer.{Answer}
+use Rattle.closing.specs.declared.Answer.the-variants.{Closed}
+use Rattle.closing.specs.Claims.{Closes}
+use Rattle.closing.proofs.Answers.{closes-fit}
+use Rattle.closing.proofs.Columns.{fits-columns}
+use Rattle.closing.specs.Steps.{fits, every, rowFits, argBefore, statementFits}
+
+-- a context in the columns of `close`
+abbrev pub ClosesIn : Context → Answer → List ℕ → Type 0
+ClosesIn c a t =
+    Closes (pad 255 (symbolsOf (c .rows))) (pad 255 (countsOf (c .rows))) (pad 1020 (argumentsOf (c .rows))) (length (c .rows))
+    (pad 510 (map kindOf (c .statements))) (pad 510 (map firstOf (c .statements))) (pad 510 (map secondOf (c .statements))) (length (c .statements))
+    a t
+
+abbrev f : ℕ → Row
+f i = record { symbol = 1; args = i ∷ [] }
+
+abbrev a : Row
+a = record { symbol = 0; args = [] }
+
+abbrev pub p9 : Context
+p9 = record { rows = a ∷ f 0 ∷ f 1 ∷ f 2 ∷ f 3 ∷ f 4 ∷ []; statements = same 3 0 ∷ same 5 0 ∷ [] }
+
+abbrev pub p10 : Context
+p10 = record { rows = a ∷ a ∷ []; statements = [] }
+
+lowest-zero : (c : Context) (n : ℕ) (t : List ℕ) → Promise c n t → (i : ℕ) → i < length (c .rows) → 0 < length (c .rows)
+    → EqualIn c (termAt (c .rows) i) (termAt (c .rows) 0) → repAt t i ≡ 0
+lowest-zero c n t p i h z e = omega (arith, p .rows i h .least 0 z e)
+
+-- ---- P9
+
+pub p9-says : contextFrom (pad 255 (symbolsOf (p9 .rows))) (pad 255 (countsOf (p9 .rows))) (pad 1020 (argumentsOf (p9 .rows))) 6
+    (pad 510 (map kindOf (p9 .statements))) (pad 510 (map firstOf (p9 .statements))) (pad 510 (map secondOf (p9 .statements))) 2
+    ≡ p9
+unfolding contextFrom rowsFrom statementsFrom statementOf pad fours
+p9-says = refl
+
+pub p9-fits : fits (pad 255 (countsOf (p9 .rows))) (pad 1020 (argumentsOf (p9 .rows))) 6 (pad 510 (map firstOf (p9 .statements))) (pad 510 (map secondOf (p9 .statements))) 2 ≡ true
+unfolding fits every rowFits argBefore statementFits pad fours
+p9-fits = refl
+
+-- f applied i times
+abbrev t9 : ℕ → Term
+t9 i = termAt (p9 .rows) i
+
+abbrev Eq9 : Term → Term → Type 0
+Eq9 = EqualIn p9
+
+third : Eq9 (t9 3) (t9 0)
+unfolding equationsOf
+third = given (0, omega arith, refl, refl)
+
+fifth : Eq9 (t9 5) (t9 0)
+unfolding equationsOf
+fifth = given (1, omega arith, refl, refl)
+
+under : {s t : Term} → Eq9 s t → Eq9 (node 1 (more s stop)) (node 1 (more t stop))
+under e = congruent (same-more e same-stop)
+
+second : Eq9 (t9 2) (t9 0)
+unfolding terms grow pick
+second = transitive (symmetric (under (under third))) fifth
+
+once : Eq9 (t9 1) (t9 0)
+unfolding terms grow pick
+once = transitive (symmetric (under second)) third
+
+fourth : Eq9 (t9 4) (t9 0)
+unfolding terms grow pick
+fourth = transitive (under third) once
+
+pub p9-equal : (i : ℕ) → i < 6 → EqualIn p9 (termAt (p9 .rows) i) (termAt (p9 .rows) 0)
+p9-equal zero h = reflexive
+p9-equal (suc zero) h = once
+p9-equal (suc (suc zero)) h = second
+p9-equal (suc (suc (suc zero))) h = third
+p9-equal (suc (suc (suc (suc zero)))) h = fourth
+p9-equal (suc (suc (suc (suc (suc zero))))) h = fifth
+p9-equal (suc (suc (suc (suc (suc (suc i)))))) h = absurd (omega arith)
+
+pub p9-zero : (x : Answer) (t : List ℕ) → ClosesIn p9 x t → (x ≡ Closed) × ((i : ℕ) → i < 6 → repAt t i ≡ 0)
+p9-zero x t c =
+    let w = closes-fit _ _ _ _ _ _ _ _ x t (fits-columns _ _ _ _ _ _ _ _ p9-fits) c in
+    (w .0, λ i h. lowest-zero p9 255 t (rw p9-says at (w .1)) i h (omega arith) (p9-equal i h))
+
+-- ---- P10
+
+p10-says : contextFrom (pad 255 (symbolsOf (p10 .rows))) (pad 255 (countsOf (p10 .rows))) (pad 1020 (argumentsOf (p10 .rows))) 2
+    (pad 510 (map kindOf (p10 .statements))) (pad 510 (map firstOf (p10 .statements))) (pad 510 (map secondOf (p10 .statements))) 0
+    ≡ p10
+unfolding contextFrom rowsFrom statementsFrom pad fours
+p10-says = refl
+
+p10-fits : fits (pad 255 (countsOf (p10 .rows))) (pad 1020 (argumentsOf (p10 .rows))) 2 (pad 510 (map firstOf (p10 .statements))) (pad 510 (map secondOf (p10 .statements))) 0 ≡ true
+unfolding fits every rowFits argBefore statementFits pad fours
+p10-fits = refl
+
+p10-equal : (i : ℕ) → i < 2 → EqualIn p10 (termAt (p10 .rows) i) (termAt (p10 .rows) 0)
+unfolding terms grow pick
+p10-equal zero h = reflexive
+p10-equal (suc zero) h = reflexive
+p10-equal (suc (suc i)) h = absurd (omega arith)
+
+pub p10-zero : (x : Answer) (t : List ℕ) → ClosesIn p10 x t → (x ≡ Closed) × ((i : ℕ) → i < 2 → repAt t i ≡ 0)
+p10-zero x t c =
+    let w = closes-fit _ _ _ _ _ _ _ _ x t (fits-columns _ _ _ _ _ _ _ _ p10-fits) c in
+    (w .0, λ i h. lowest-zero p10 255 t (rw p10-says at (w .1)) i h (omega arith) (p10-equal i h))

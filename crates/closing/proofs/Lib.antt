@@ -1,0 +1,13 @@
+pub mod Answers
+pub mod Controls
+pub mod Examples
+mod Chains
+mod Clashes
+mod Columns
+mod Fitting
+mod Merges
+mod Pairs
+mod Rounds
+mod Rows
+mod Stated
+mod Tables
