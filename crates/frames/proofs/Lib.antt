@@ -1,0 +1,7 @@
+pub mod Table
+pub mod Hex
+pub mod Breaks
+pub mod Scan
+pub mod Fields
+pub mod Ways
+pub mod Clashes

@@ -1,0 +1,23 @@
+-- `entries::argument` meets its contract: past the last argument the answer is row 0.
+-- Assumes nothing.
+use Rattle.frames.proofs.Ways.{mine}
+use Rattle.frames.proofs.entries.argument.Statement.{statement}
+use Rattle.frames.proofs.entries.argument.Tie as tie
+
+mul-row-at : tie.Need-mul-row-at
+mul-row-at c = search mine
+
+add-row-at : tie.Need-add-row-at
+add-row-at c = search mine
+
+row-at-requires : tie.Need-row-at-requires
+row-at-requires c κs = search mine
+
+returns : tie.Need-returns
+returns c = search mine
+
+returns-2 : tie.Need-returns-2
+returns-2 c = search mine
+
+pub argument-spec : {M : Type 1} → statement M
+argument-spec = tie.close (tie.spec mul-row-at add-row-at row-at-requires returns returns-2)

@@ -1,0 +1,20 @@
+-- `entries::row_at` meets its contract: a field below n names a row.
+-- Assumes nothing.
+use Rattle.frames.proofs.Ways.{mine}
+use Rattle.frames.proofs.entries.row_at.Statement.{statement}
+use Rattle.frames.proofs.entries.row_at.Tie as tie
+
+field-requires : tie.Need-field-requires
+field-requires c κs = search mine
+
+cast-row : tie.Need-cast-row
+cast-row c = search mine
+
+returns : tie.Need-returns
+returns c = search mine
+
+returns-2 : tie.Need-returns-2
+returns-2 c = search mine
+
+pub row-at-spec : {M : Type 1} → statement M
+row-at-spec = tie.close (tie.spec field-requires cast-row returns returns-2)

@@ -1,0 +1,42 @@
+-- `lines::line_at` meets its contract: each way out is a law on where the run of digits ends.
+-- Assumes nothing.
+use Rattle.frames.proofs.Scan.{mine}
+use Rattle.frames.proofs.lines.line_at.Statement.{statement}
+use Rattle.frames.proofs.lines.line_at.Tie as tie
+
+digits-end-requires : tie.Need-digits-end-requires
+digits-end-requires c κs = search mine
+
+returns : tie.Need-returns
+returns c = search mine
+
+shared-slice-read-if2 : tie.Need-shared-slice-read-if2
+shared-slice-read-if2 c = search mine
+
+returns-2 : tie.Need-returns-2
+returns-2 c = search mine
+
+sub-n : tie.Need-sub-n
+sub-n c = search mine
+
+returns-3 : tie.Need-returns-3
+returns-3 c = search mine
+
+returns-4 : tie.Need-returns-4
+returns-4 c = search mine
+
+returns-5 : tie.Need-returns-5
+returns-5 c = search mine
+
+pub line-at-spec : {M : Type 1} → statement M
+line-at-spec =
+    tie.close
+    (tie.spec
+    digits-end-requires
+    returns
+    shared-slice-read-if2
+    returns-2
+    sub-n
+    returns-3
+    returns-4
+    returns-5)

@@ -1,0 +1,5 @@
+pub mod Choice
+pub mod Digits
+pub mod Lines
+pub mod Entries
+pub mod Agree

@@ -1,0 +1,172 @@
+// What one line adds, or the number of its refusal: a pair of rows, or a symbol over rows.
+use super::lines::field;
+ghost use mathlib.Core.Path.{_≡_};
+ghost use Prim.Native.Nat.{_≤_, _<_, _+_, _*_};
+ghost use lib.ListN.{length};
+ghost use Rattle.frames.specs.Lines.{Legible, valueAt};
+ghost use Rattle.frames.specs.Entries.{foundIn, argumentOf, pairOf, TermLine, TwoFields, symbolAt, termFrom, termOf, variableOf};
+
+pub enum Found {
+    Row(u16),
+    Missing,
+}
+
+pub struct Pair {
+    pub left: u16,
+    pub right: u16,
+}
+
+pub enum Paired {
+    Is(Pair),
+    Refused(u8),
+}
+
+pub struct Term {
+    pub head: u16,
+    pub count: u8,
+    pub a: u16,
+    pub b: u16,
+    pub c: u16,
+    pub d: u16,
+}
+
+pub enum Termed {
+    Is(Term),
+    Refused(u8),
+}
+
+// The row that a field names, of the first n.
+pub fn row_at(text: &[u8], at: usize, n: usize) -> Found
+    requires { ⌜ at + 1 < length (now text) ⌝ }
+    ensures { λ r. ⌜ r ≡ foundIn n (valueAt (now (text .entry)) at) ⌝ }
+{
+    let v = field(text, at);
+    let row = v as usize;
+    if row < n {
+        Found::Row(v)
+    } else {
+        Found::Missing
+    }
+}
+
+// Argument k of those that begin at a place, or 0 past the last.
+pub fn argument(text: &[u8], at: usize, k: u8, count: u8, n: usize) -> Found
+    requires { ⌜ at + count * 2 ≤ length (now text) ⌝ }
+    ensures { λ r. ⌜ r ≡ argumentOf (now (text .entry)) at k count n ⌝ }
+{
+    if k < count {
+        let i = k as usize;
+        row_at(text, at + i * 2, n)
+    } else {
+        Found::Row(0)
+    }
+}
+
+// The line from a place to an end names two of n rows.
+pub fn pair_line(text: &[u8], at: usize, end: usize, room: bool, n: usize) -> Paired
+    requires { ⌜ Legible (now text) at end ⌝ }
+    ensures { λ r. ⌜ r ≡ pairOf (now (text .entry)) at end room n ⌝ }
+{
+    if end - at != 6 {
+        return Paired::Refused(3);
+    }
+    if !room {
+        return Paired::Refused(5);
+    }
+    let Found::Row(left) = row_at(text, at + 2, n) else {
+        return Paired::Refused(6);
+    };
+    let Found::Row(right) = row_at(text, at + 4, n) else {
+        return Paired::Refused(6);
+    };
+    let p = Pair { left, right };
+    Paired::Is(p)
+}
+
+fn symbol_at(text: &[u8], at: usize) -> u16
+    requires { ⌜ TwoFields (now text) at ⌝ }
+    ensures { λ r. ⌜ r ≡ symbolAt (now (text .entry)) at ⌝ }
+{
+    let high = field(text, at);
+    let low = field(text, at + 2);
+    high * 256 + low
+}
+
+// The symbol and the arguments of a line that has count of them.
+fn term_of(text: &[u8], at: usize, end: usize, count: u8, n: usize) -> Termed
+    requires { ⌜ TermLine (now text) at end count ⌝ }
+    ensures { λ r. ⌜ r ≡ termFrom (now (text .entry)) at count n ⌝ }
+{
+    let first = at + 8;
+    let Found::Row(a) = argument(text, first, 0, count, n) else {
+        return Termed::Refused(6);
+    };
+    let Found::Row(b) = argument(text, first, 1, count, n) else {
+        return Termed::Refused(6);
+    };
+    let Found::Row(c) = argument(text, first, 2, count, n) else {
+        return Termed::Refused(6);
+    };
+    let Found::Row(d) = argument(text, first, 3, count, n) else {
+        return Termed::Refused(6);
+    };
+    let head = symbol_at(text, at + 2);
+    let t = Term {
+        head,
+        count,
+        a,
+        b,
+        c,
+        d,
+    };
+    Termed::Is(t)
+}
+
+// The line from a place to an end has a symbol over some of n rows.
+pub fn term_line(text: &[u8], at: usize, end: usize, room: bool, n: usize) -> Termed
+    requires { ⌜ Legible (now text) at end ⌝ }
+    ensures { λ r. ⌜ r ≡ termOf (now (text .entry)) at end room n ⌝ }
+{
+    let long = end - at;
+    if long < 8 {
+        return Termed::Refused(3);
+    }
+    let count = field(text, at + 6);
+    let args = count as usize;
+    if long != 8 + args * 2 {
+        return Termed::Refused(3);
+    }
+    if !room {
+        return Termed::Refused(5);
+    }
+    if 4 < count {
+        return Termed::Refused(5);
+    }
+    term_of(text, at, end, count as u8, n)
+}
+
+// The line from a place to an end has a variable.
+pub fn variable_line(text: &[u8], at: usize, end: usize, room: bool) -> Termed
+    requires { ⌜ Legible (now text) at end ⌝ }
+    ensures { λ r. ⌜ r ≡ variableOf (now (text .entry)) at end room ⌝ }
+{
+    if end - at != 4 {
+        return Termed::Refused(3);
+    }
+    if !room {
+        return Termed::Refused(5);
+    }
+    let v = field(text, at + 2);
+    if 3 < v {
+        return Termed::Refused(5);
+    }
+    let t = Term {
+        head: v,
+        count: 0,
+        a: 0,
+        b: 0,
+        c: 0,
+        d: 0,
+    };
+    Termed::Is(t)
+}

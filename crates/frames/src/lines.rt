@@ -1,0 +1,96 @@
+// Lines of a text: where a line ends, its kind and its fields.
+use super::digits::Digit;
+use super::digits::digit_of;
+use super::digits::value;
+ghost use mathlib.Core.Path.{_≡_};
+ghost use Prim.Native.Nat.{_≤_, _<_, _+_};
+ghost use lib.ListN.{length};
+ghost use Rattle.frames.specs.Lines.{Run, LineAt, valueAt, kindAt, kindOf};
+
+pub enum Line {
+    Ends(usize),
+    Bad,
+}
+
+pub enum Kind {
+    Known(u8),
+    Unknown,
+}
+
+// The first place from at on that holds no digit, or the length.
+pub fn digits_end(text: &[u8], at: usize) -> usize
+    requires { ⌜ at ≤ length (now text) ⌝ }
+    ensures run { λ r. ⌜ Run (now (text .entry)) at r ⌝ }
+{
+    let mut i = at;
+    while i < text.len() {
+        let Digit::Value(_) = digit_of(text[i]) else {
+            return i;
+        };
+        i += 1;
+    }
+    i
+}
+
+// Where the line that begins at a place has its line feed.
+pub fn line_at(text: &[u8], at: usize) -> Line
+    requires { ⌜ at < length (now text) ⌝ }
+    ensures line { λ r. ⌜ LineAt (now (text .entry)) at r ⌝ }
+{
+    let end = digits_end(text, at);
+    if text.len() <= end {
+        return Line::Bad;
+    }
+    if text[end] != 10 {
+        return Line::Bad;
+    }
+    let n = end - at;
+    if n == 0 {
+        return Line::Bad;
+    }
+    if n % 2 == 0 {
+        Line::Ends(end)
+    } else {
+        Line::Bad
+    }
+}
+
+fn wide(x: u8) -> u16
+    ensures { λ r. ⌜ r ≡ x ⌝ }
+{
+    x as u16
+}
+
+// The field whose first digit stands at a place.
+pub fn field(text: &[u8], at: usize) -> u16
+    requires { ⌜ at + 1 < length (now text) ⌝ }
+    ensures { λ r. ⌜ r ≡ valueAt (now (text .entry)) at ⌝ }
+{
+    let high = wide(value(text[at]));
+    let low = wide(value(text[at + 1]));
+    high * 16 + low
+}
+
+// The first field from a place on, or 0 where the text is too short for one.
+pub fn kind_at(text: &[u8], at: usize) -> u16
+    requires { ⌜ at ≤ length (now text) ⌝ }
+    ensures { λ r. ⌜ r ≡ kindAt (now (text .entry)) at ⌝ }
+{
+    if text.len() - at < 2 {
+        return 0;
+    }
+    field(text, at)
+}
+
+// The kind with a number.
+pub fn kind_of(n: u16) -> Kind
+    ensures { λ r. ⌜ r ≡ kindOf n ⌝ }
+{
+    if n == 0 {
+        return Kind::Unknown;
+    }
+    if 7 < n {
+        return Kind::Unknown;
+    }
+    Kind::Known(n as u8)
+}

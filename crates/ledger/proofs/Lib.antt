@@ -1,0 +1,10 @@
+pub mod Padding
+pub mod Turn
+pub mod Pairing
+pub mod Terming
+pub mod Agreeing
+pub mod Kinded
+pub mod Store
+pub mod Standing
+pub mod Rowed
+pub mod Stated
