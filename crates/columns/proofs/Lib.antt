@@ -1,0 +1,4 @@
+-- The root of the laws.
+pub mod Deciding
+pub mod Built
+pub mod Flat

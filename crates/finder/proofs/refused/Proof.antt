@@ -1,0 +1,14 @@
+use mathlib.Core.Path.{refl}
+use Rattle.finder.specs.Claims.{refusedWith}
+use Rattle.finder.proofs.refused.Statement.{statement}
+use Rattle.finder.proofs.refused.Tie as tie
+use Rattle.finder.proofs.refused.Reads as reads
+use Rattle.finder.proofs.refused.Lts as lts
+
+-- src/lib.rt:26:1
+returns : tie.Need-returns
+unfolding refusedWith
+returns c = refl
+
+pub refused-spec : {M : Type 1} → statement M
+refused-spec = tie.close (tie.spec returns)

@@ -1,0 +1,9 @@
+-- The root of the laws.
+pub mod Chaining
+pub mod Comparing
+pub mod Reading
+pub mod Testing
+pub mod Hunting
+pub mod Planning
+pub mod Bridge
+pub mod Finding

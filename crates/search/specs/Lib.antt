@@ -1,0 +1,7 @@
+-- The root of the definitions.
+pub mod Chains
+pub mod Reading
+pub mod Testing
+pub mod Planning
+pub mod Hunting
+pub mod Finding

@@ -1,0 +1,376 @@
+// The search: variables in order, rows that are their own representatives rising, each literal tried as soon as its last variable is set.
+ghost use mathlib.Core.Path.{_≡_};
+ghost use mathlib.Core.List.{List};
+ghost use Prim.Native.Nat.{_+_, _-_, _≤_, _<_};
+ghost use lib.ListN.{set, take, replicate};
+ghost use Rattle.meaning.specs.Context.{differencesOf};
+ghost use Rattle.meaning.specs.Rules.{Found, found, nothing};
+ghost use Rattle.meaning.specs.Equality.{repAt};
+ghost use Rattle.meaning.specs.ByTable.{apartBy};
+ghost use Rattle.meaning.specs.Columns.{rowsFrom, statementsFrom, patternsFrom, literalsFrom};
+ghost use Rattle.meaning.specs.FirstBy.{lowest};
+ghost use Rattle.search.specs.Hunting.{stageOf, deadOf, enterOf, attemptOf, huntOf, candidateOf, answerOf, isBreach, Hunting, Chosen};
+use crate::Kind;
+use crate::Reply;
+use crate::size::wide;
+use crate::size::wide8;
+
+fn clear() -> Reply
+    ensures { λ r. ⌜ r ≡ answerOf nothing ⌝ }
+{
+    Reply {
+        kind: Kind::Clear,
+        places: [255; 4],
+    }
+}
+
+fn breach(k: u8, chosen: [u16; 4]) -> Reply
+    requires { ⌜ (k ≤ 4) × Chosen k chosen ⌝ }
+    ensures { λ r. ⌜ r ≡ answerOf (found (take k chosen)) ⌝ }
+{
+    Reply {
+        kind: Kind::Breach(k),
+        places: chosen,
+    }
+}
+
+fn is_breach(r: Reply) -> bool
+    ensures { λ b. ⌜ b ≡ isBreach (r .kind) ⌝ }
+{
+    let kind = r.kind;
+    match kind {
+        Kind::Breach(_) => true,
+        Kind::Clear => false,
+        Kind::Unfit => false,
+    }
+}
+
+fn unread() -> [u32; 64]
+    ensures { λ r. ⌜ r ≡ replicate 64 0 ⌝ }
+{
+    [0; 64]
+}
+
+fn unset() -> [u16; 4]
+    ensures { λ r. ⌜ r ≡ replicate 4 255 ⌝ }
+{
+    [255; 4]
+}
+
+// Variable k takes row i.
+fn choose(chosen: [u16; 4], k: u8, i: usize) -> [u16; 4]
+    requires { ⌜ (k < 4) × (i < 255) ⌝ }
+    ensures { λ r. ⌜ r ≡ set chosen k i ⌝ }
+{
+    let mut c = chosen;
+    c[wide8(k)] = i as u16;
+    c
+}
+
+// The first breach in which variable k has row i and the variables before it their chosen rows.
+fn try_row<'a>(
+    symbols: &'a [u16; 255],
+    counts: &'a [u8; 255],
+    args: &'a [u16; 1020],
+    rows: usize,
+    kinds: &'a [u8; 510],
+    lefts: &'a [u16; 510],
+    rights: &'a [u16; 510],
+    statements: usize,
+    table: &'a [u16; 255],
+    first: &'a [u16; 256],
+    next: &'a [u16; 255],
+    shapes: &'a [u8; 64],
+    heads: &'a [u16; 64],
+    arities: &'a [u8; 64],
+    subs: &'a [u16; 256],
+    patterns: usize,
+    levels: &'a [u8; 64],
+    order: &'a [u8; 64],
+    ends: &'a [u8; 6],
+    signs: &'a [u8; 16],
+    firsts: &'a [u16; 16],
+    seconds: &'a [u16; 16],
+    literals: usize,
+    variables: u8,
+    k: u8,
+    chosen: [u16; 4],
+    values: [u32; 64],
+    i: usize,
+) -> Reply
+    requires { ⌜ Hunting (now symbols) (now counts) (now args) rows (now lefts) (now rights) statements (now first) (now next) (now shapes) (now heads) (now arities) (now subs) patterns (now order) (now ends) (now firsts) (now seconds) literals variables ⌝ }
+    requires { ⌜ (k < variables) × (i < rows) × Chosen k chosen ⌝ }
+    ensures { λ r. ⌜ r ≡ answerOf (candidateOf (repAt (now (table .entry))) (attemptOf (stageOf (rowsFrom (now (symbols .entry)) (now (counts .entry)) (now (args .entry)) rows) (repAt (now (table .entry))) (patternsFrom (now (shapes .entry)) (now (heads .entry)) (now (arities .entry)) (now (subs .entry)) patterns) (now (order .entry)) (now (ends .entry))) (deadOf (apartBy (repAt (now (table .entry))) (differencesOf (statementsFrom (now (kinds .entry)) (now (lefts .entry)) (now (rights .entry)) statements))) (now (levels .entry)) (literalsFrom (now (signs .entry)) (now (firsts .entry)) (now (seconds .entry)) literals)) (huntOf (stageOf (rowsFrom (now (symbols .entry)) (now (counts .entry)) (now (args .entry)) rows) (repAt (now (table .entry))) (patternsFrom (now (shapes .entry)) (now (heads .entry)) (now (arities .entry)) (now (subs .entry)) patterns) (now (order .entry)) (now (ends .entry))) (deadOf (apartBy (repAt (now (table .entry))) (differencesOf (statementsFrom (now (kinds .entry)) (now (lefts .entry)) (now (rights .entry)) statements))) (now (levels .entry)) (literalsFrom (now (signs .entry)) (now (firsts .entry)) (now (seconds .entry)) literals)) (lowest (repAt (now (table .entry))) 0 rows) (variables - (k + 1)) (k + 1)) k chosen values) i) ⌝ }
+{
+    if wide(table[i]) != i {
+        return clear();
+    }
+    let c = choose(chosen, k, i);
+    enter(
+        symbols,
+        counts,
+        args,
+        rows,
+        kinds,
+        lefts,
+        rights,
+        statements,
+        table,
+        first,
+        next,
+        shapes,
+        heads,
+        arities,
+        subs,
+        patterns,
+        levels,
+        order,
+        ends,
+        signs,
+        firsts,
+        seconds,
+        literals,
+        variables,
+        k + 1,
+        c,
+        values,
+    )
+}
+
+// The rows of level k are read and the literals of that level are tried; then the search goes on.
+fn enter<'a>(
+    symbols: &'a [u16; 255],
+    counts: &'a [u8; 255],
+    args: &'a [u16; 1020],
+    rows: usize,
+    kinds: &'a [u8; 510],
+    lefts: &'a [u16; 510],
+    rights: &'a [u16; 510],
+    statements: usize,
+    table: &'a [u16; 255],
+    first: &'a [u16; 256],
+    next: &'a [u16; 255],
+    shapes: &'a [u8; 64],
+    heads: &'a [u16; 64],
+    arities: &'a [u8; 64],
+    subs: &'a [u16; 256],
+    patterns: usize,
+    levels: &'a [u8; 64],
+    order: &'a [u8; 64],
+    ends: &'a [u8; 6],
+    signs: &'a [u8; 16],
+    firsts: &'a [u16; 16],
+    seconds: &'a [u16; 16],
+    literals: usize,
+    variables: u8,
+    k: u8,
+    chosen: [u16; 4],
+    values: [u32; 64],
+) -> Reply
+    requires { ⌜ Hunting (now symbols) (now counts) (now args) rows (now lefts) (now rights) statements (now first) (now next) (now shapes) (now heads) (now arities) (now subs) patterns (now order) (now ends) (now firsts) (now seconds) literals variables ⌝ }
+    requires { ⌜ (k ≤ variables) × Chosen k chosen ⌝ }
+    ensures { λ r. ⌜ r ≡ answerOf (enterOf (stageOf (rowsFrom (now (symbols .entry)) (now (counts .entry)) (now (args .entry)) rows) (repAt (now (table .entry))) (patternsFrom (now (shapes .entry)) (now (heads .entry)) (now (arities .entry)) (now (subs .entry)) patterns) (now (order .entry)) (now (ends .entry))) (deadOf (apartBy (repAt (now (table .entry))) (differencesOf (statementsFrom (now (kinds .entry)) (now (lefts .entry)) (now (rights .entry)) statements))) (now (levels .entry)) (literalsFrom (now (signs .entry)) (now (firsts .entry)) (now (seconds .entry)) literals)) (huntOf (stageOf (rowsFrom (now (symbols .entry)) (now (counts .entry)) (now (args .entry)) rows) (repAt (now (table .entry))) (patternsFrom (now (shapes .entry)) (now (heads .entry)) (now (arities .entry)) (now (subs .entry)) patterns) (now (order .entry)) (now (ends .entry))) (deadOf (apartBy (repAt (now (table .entry))) (differencesOf (statementsFrom (now (kinds .entry)) (now (lefts .entry)) (now (rights .entry)) statements))) (now (levels .entry)) (literalsFrom (now (signs .entry)) (now (firsts .entry)) (now (seconds .entry)) literals)) (lowest (repAt (now (table .entry))) 0 rows) (variables - k) k) k chosen values) ⌝ }
+{
+    let j = wide8(k);
+    let v = crate::value::read(
+        symbols,
+        counts,
+        args,
+        rows,
+        table,
+        first,
+        next,
+        shapes,
+        heads,
+        arities,
+        subs,
+        patterns,
+        order,
+        wide8(ends[j]),
+        wide8(ends[j + 1]),
+        chosen,
+        values,
+    );
+    if !crate::literal::all_pass(
+        kinds,
+        lefts,
+        rights,
+        statements,
+        table,
+        levels,
+        signs,
+        firsts,
+        seconds,
+        literals,
+        k,
+        &v,
+    ) {
+        return clear();
+    }
+    seek(
+        symbols,
+        counts,
+        args,
+        rows,
+        kinds,
+        lefts,
+        rights,
+        statements,
+        table,
+        first,
+        next,
+        shapes,
+        heads,
+        arities,
+        subs,
+        patterns,
+        levels,
+        order,
+        ends,
+        signs,
+        firsts,
+        seconds,
+        literals,
+        variables,
+        k,
+        chosen,
+        v,
+    )
+}
+
+// The first breach in which the variables before k have their chosen rows.
+fn seek<'a>(
+    symbols: &'a [u16; 255],
+    counts: &'a [u8; 255],
+    args: &'a [u16; 1020],
+    rows: usize,
+    kinds: &'a [u8; 510],
+    lefts: &'a [u16; 510],
+    rights: &'a [u16; 510],
+    statements: usize,
+    table: &'a [u16; 255],
+    first: &'a [u16; 256],
+    next: &'a [u16; 255],
+    shapes: &'a [u8; 64],
+    heads: &'a [u16; 64],
+    arities: &'a [u8; 64],
+    subs: &'a [u16; 256],
+    patterns: usize,
+    levels: &'a [u8; 64],
+    order: &'a [u8; 64],
+    ends: &'a [u8; 6],
+    signs: &'a [u8; 16],
+    firsts: &'a [u16; 16],
+    seconds: &'a [u16; 16],
+    literals: usize,
+    variables: u8,
+    k: u8,
+    chosen: [u16; 4],
+    values: [u32; 64],
+) -> Reply
+    requires { ⌜ Hunting (now symbols) (now counts) (now args) rows (now lefts) (now rights) statements (now first) (now next) (now shapes) (now heads) (now arities) (now subs) patterns (now order) (now ends) (now firsts) (now seconds) literals variables ⌝ }
+    requires { ⌜ (k ≤ variables) × Chosen k chosen ⌝ }
+    ensures { λ r. ⌜ r ≡ answerOf (huntOf (stageOf (rowsFrom (now (symbols .entry)) (now (counts .entry)) (now (args .entry)) rows) (repAt (now (table .entry))) (patternsFrom (now (shapes .entry)) (now (heads .entry)) (now (arities .entry)) (now (subs .entry)) patterns) (now (order .entry)) (now (ends .entry))) (deadOf (apartBy (repAt (now (table .entry))) (differencesOf (statementsFrom (now (kinds .entry)) (now (lefts .entry)) (now (rights .entry)) statements))) (now (levels .entry)) (literalsFrom (now (signs .entry)) (now (firsts .entry)) (now (seconds .entry)) literals)) (lowest (repAt (now (table .entry))) 0 rows) (variables - k) k chosen values) ⌝ }
+{
+    if variables <= k {
+        return breach(k, chosen);
+    }
+    let mut i = 0;
+    while i < rows {
+        let r = try_row(
+            symbols,
+            counts,
+            args,
+            rows,
+            kinds,
+            lefts,
+            rights,
+            statements,
+            table,
+            first,
+            next,
+            shapes,
+            heads,
+            arities,
+            subs,
+            patterns,
+            levels,
+            order,
+            ends,
+            signs,
+            firsts,
+            seconds,
+            literals,
+            variables,
+            k,
+            chosen,
+            values,
+            i,
+        );
+        if is_breach(r) {
+            return r;
+        }
+        i += 1;
+    }
+    clear()
+}
+
+pub(crate) fn start<'a>(
+    symbols: &'a [u16; 255],
+    counts: &'a [u8; 255],
+    args: &'a [u16; 1020],
+    rows: usize,
+    kinds: &'a [u8; 510],
+    lefts: &'a [u16; 510],
+    rights: &'a [u16; 510],
+    statements: usize,
+    table: &'a [u16; 255],
+    first: &'a [u16; 256],
+    next: &'a [u16; 255],
+    shapes: &'a [u8; 64],
+    heads: &'a [u16; 64],
+    arities: &'a [u8; 64],
+    subs: &'a [u16; 256],
+    patterns: usize,
+    levels: &'a [u8; 64],
+    order: &'a [u8; 64],
+    ends: &'a [u8; 6],
+    signs: &'a [u8; 16],
+    firsts: &'a [u16; 16],
+    seconds: &'a [u16; 16],
+    literals: usize,
+    variables: u8,
+) -> Reply
+    requires { ⌜ Hunting (now symbols) (now counts) (now args) rows (now lefts) (now rights) statements (now first) (now next) (now shapes) (now heads) (now arities) (now subs) patterns (now order) (now ends) (now firsts) (now seconds) literals variables ⌝ }
+    ensures { λ r. ⌜ r ≡ answerOf (enterOf (stageOf (rowsFrom (now (symbols .entry)) (now (counts .entry)) (now (args .entry)) rows) (repAt (now (table .entry))) (patternsFrom (now (shapes .entry)) (now (heads .entry)) (now (arities .entry)) (now (subs .entry)) patterns) (now (order .entry)) (now (ends .entry))) (deadOf (apartBy (repAt (now (table .entry))) (differencesOf (statementsFrom (now (kinds .entry)) (now (lefts .entry)) (now (rights .entry)) statements))) (now (levels .entry)) (literalsFrom (now (signs .entry)) (now (firsts .entry)) (now (seconds .entry)) literals)) (huntOf (stageOf (rowsFrom (now (symbols .entry)) (now (counts .entry)) (now (args .entry)) rows) (repAt (now (table .entry))) (patternsFrom (now (shapes .entry)) (now (heads .entry)) (now (arities .entry)) (now (subs .entry)) patterns) (now (order .entry)) (now (ends .entry))) (deadOf (apartBy (repAt (now (table .entry))) (differencesOf (statementsFrom (now (kinds .entry)) (now (lefts .entry)) (now (rights .entry)) statements))) (now (levels .entry)) (literalsFrom (now (signs .entry)) (now (firsts .entry)) (now (seconds .entry)) literals)) (lowest (repAt (now (table .entry))) 0 rows) variables 0) 0 (replicate 4 255) (replicate 64 0)) ⌝ }
+{
+    enter(
+        symbols,
+        counts,
+        args,
+        rows,
+        kinds,
+        lefts,
+        rights,
+        statements,
+        table,
+        first,
+        next,
+        shapes,
+        heads,
+        arities,
+        subs,
+        patterns,
+        levels,
+        order,
+        ends,
+        signs,
+        firsts,
+        seconds,
+        literals,
+        variables,
+        0,
+        unset(),
+        unread(),
+    )
+}
