@@ -1,0 +1,88 @@
+-- Lines at the front of 32 bytes.
+--     prints-one    a line is printed in one way
+-- Assumes nothing.
+use mathlib.Core.List.{List, [], _∷_, _++_, map}
+use mathlib.Core.Path.{_≡_, refl, sym, ap, _∙_}
+use Prim.Native.Nat.{ℕ, zero, suc, _+_, _-_, _/_, _≤_, min}
+use native.Mathlib.Nat.{zero-add}
+use native.Mathlib.Omega.{arith}
+use borrow.Author.Needs.{needs}
+use lib.ListN.{length, getD, take, drop, replicate, length-map, length-take}
+use lib.Seq.{length-take-le, take-nil}
+use Rattle.meaning.specs.Writing.{frame}
+use Rattle.meaning.specs.Replies.{breach, none, refused, refusal, printed, codeOf, valuesOf}
+use Rattle.normaliser.specs.Pieces.{low8, Put, LineRoom}
+use Rattle.normaliser.specs.Prints.{Prints}
+use Rattle.normaliser.proofs.Stores.{put-whole}
+use Rattle.normaliser.proofs.Lines.{length-frame}
+
+pub prints-one : {line a b : List ℕ} {m n : ℕ} → Prints line a m → Prints line b n → (a ≡ b) × (m ≡ n)
+prints-one p q = (p .front ∙ sym (q .front), p .size ∙ sym (q .size))
+
+pub line-room : (n : ℕ) → n ≤ 8 → LineRoom n 0 (replicate 32 0)
+line-room n h = record { few = h; room = omega arith }
+
+drop-zeros : (n m : ℕ) → drop {A = ℕ} n (replicate m 0) ≡ replicate (m - n) 0
+drop-zeros zero m = let e : m - 0 ≡ m = omega arith in rw e
+drop-zeros (suc n) zero = let e : 0 - suc n ≡ 0 = omega arith in rw e
+drop-zeros (suc n) (suc m) = let e : suc m - suc n ≡ m - n = omega arith in rw e (drop-zeros n m)
+
+pub line-printed : (fields bytes : List ℕ) (n len : ℕ) → length fields ≡ 8 → n ≤ 8 → Put (replicate 32 0) 0 (frame (take n fields)) len bytes
+    → Prints (frame (take n fields)) bytes len
+line-printed fields bytes n len e h d =
+    record {
+      size = d .place ∙ zero-add (length (frame (take n fields)));
+      front = put-whole d small ∙ ap (λ (l : List ℕ). frame (take n fields) ++ l) (drop-zeros (length (frame (take n fields))) 32);
+    }
+  where
+    small : length (frame (take n fields)) ≤ 32
+    small = omega (arith, length-frame (take n fields), length-take-le n fields (omega arith))
+
+-- ---- a breach of up to four variables
+
+take-cut : (a b c d n m : ℕ) → m ≡ min n 4 → take m (a ∷ b ∷ c ∷ d ∷ 0 ∷ 0 ∷ []) ≡ take n (a ∷ b ∷ c ∷ d ∷ [])
+take-cut a b c d zero m e = rw e
+take-cut a b c d (suc zero) m e = rw e
+take-cut a b c d (suc (suc zero)) m e = rw e
+take-cut a b c d (suc (suc (suc zero))) m e = rw e
+take-cut a b c d (suc (suc (suc (suc n)))) m e = let f : m ≡ 4 = omega arith in rw f (ap (λ (r : List ℕ). a ∷ b ∷ c ∷ d ∷ r) (sym (take-nil n)))
+
+map-take : (f : ℕ → ℕ) (n : ℕ) (l : List ℕ) → map f (take n l) ≡ take n (map f l)
+map-take f zero l = refl
+map-take f (suc n) [] = refl
+map-take f (suc n) (x ∷ l) = ap (λ (r : List ℕ). f x ∷ r) (map-take f n l)
+
+four : (rows : List ℕ) → length rows ≡ 4 → rows ≡ getD rows 0 0 ∷ getD rows 1 0 ∷ getD rows 2 0 ∷ getD rows 3 0 ∷ []
+four [] e = absurd (omega arith)
+four (a ∷ []) e = absurd (omega arith)
+four (a ∷ b ∷ []) e = absurd (omega arith)
+four (a ∷ b ∷ c ∷ []) e = absurd (omega arith)
+four (a ∷ b ∷ c ∷ d ∷ []) e = refl
+four (a ∷ b ∷ c ∷ d ∷ x ∷ l) e = absurd (omega arith)
+
+module _ (rows : List ℕ) (n m a b c d : ℕ) (l : length rows ≡ 4) (e : m ≡ min n 4)
+    (ea : a ≡ low8 (getD rows 0 0)) (eb : b ≡ low8 (getD rows 1 0)) (ec : c ≡ low8 (getD rows 2 0)) (ed : d ≡ low8 (getD rows 3 0)) where
+  breach-rows : take m (a ∷ b ∷ c ∷ d ∷ 0 ∷ 0 ∷ []) ≡ map low8 (take n rows)
+  breach-rows =
+      take-cut a b c d n m e ∙ rw (ea, eb, ec, ed) (sym (ap (λ (r : List ℕ). take n (map low8 r)) (four rows l)))
+      ∙ sym (map-take low8 n rows)
+
+  pub breach-printed : (bytes : List ℕ) (len : ℕ) → Prints (frame (take (m + 2) (8 ∷ m ∷ a ∷ b ∷ c ∷ d ∷ 0 ∷ 0 ∷ []))) bytes len
+      → Prints (printed (breach (map low8 (take n rows)))) bytes len
+  unfolding printed codeOf valuesOf
+  breach-printed bytes len p =
+      let size : length (map low8 (take n rows)) ≡ m =
+      length-map (take n rows) low8 ∙ length-take n rows ∙ omega arith in
+      let two : m + 2 ≡ suc (suc m) = omega arith in
+      rw (size, ← breach-rows) (rw two at p)
+
+pub none-printed : (bytes : List ℕ) (len : ℕ) → Prints (frame (take 1 (9 ∷ 0 ∷ 0 ∷ 0 ∷ 0 ∷ 0 ∷ 0 ∷ 0 ∷ []))) bytes len → Prints (printed none) bytes len
+unfolding printed codeOf valuesOf
+none-printed bytes len p = p
+
+pub refusal-printed : (bytes : List ℕ) (number place high low len : ℕ) → high ≡ place / 256 → low ≡ low8 place
+    → Prints (frame (take 4 (10 ∷ number ∷ high ∷ low ∷ 0 ∷ 0 ∷ 0 ∷ 0 ∷ []))) bytes len → Prints (printed (refused (refusal number place))) bytes len
+unfolding printed codeOf valuesOf
+refusal-printed bytes number place high low len d e p = rw (← d, ← e) p
+
+pub ruleset mine = (needs, line-room, line-printed, breach-printed, none-printed, refusal-printed)

@@ -1,0 +1,20 @@
+-- `printed::refusal_line` meets its contract: the line of the code, the number and the two bytes of the place, high byte first.
+-- Assumes nothing.
+use Rattle.normaliser.proofs.Printing.{mine}
+use Rattle.normaliser.proofs.printed.refusal_line.Statement.{statement}
+use Rattle.normaliser.proofs.printed.refusal_line.Tie as tie
+
+high-requires : tie.Need-high-requires
+high-requires c κs = search mine
+
+low-requires : tie.Need-low-requires
+low-requires c κs = search mine
+
+line-of-requires : tie.Need-line-of-requires
+line-of-requires c κs = search mine
+
+returns : tie.Need-returns
+returns c = search mine
+
+pub refusal-line-spec : {M : Type 1} → statement M
+refusal-line-spec = tie.close (tie.spec high-requires low-requires line-of-requires returns)

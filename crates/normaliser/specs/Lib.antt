@@ -1,0 +1,8 @@
+-- The root of the definitions.
+pub mod Pieces
+pub mod Rooms
+pub mod Prints
+pub mod Sorting
+pub mod Keyed
+pub mod Normals
+pub mod Claims
