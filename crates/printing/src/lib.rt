@@ -1,14 +1,23 @@
 // What the programs print for an input.
 use finder::Outcome;
+use normaliser::Written;
 use normaliser::printed::Line;
 use normaliser::printed::breach_line;
 use normaliser::printed::none_line;
 use normaliser::printed::refusal_line;
 ghost use mathlib.Core.Path.{_≡_};
-ghost use Rattle.printing.specs.Claims.{PrintsFound};
+ghost use mathlib.Core.List.{[]};
+ghost use Rattle.normaliser.specs.Prints.{Prints};
+ghost use Rattle.printing.specs.Claims.{PrintsFound, PrintsNormal};
 
 // The most bytes that a program takes.
 const MOST_INPUT: usize = 16384;
+
+// What is printed: so many bytes of the lent space, and then the line.
+pub struct Parts {
+    pub text: usize,
+    pub line: Line,
+}
 
 fn wide(x: u8) -> usize
     ensures { λ r. ⌜ r ≡ x ⌝ }
@@ -30,5 +39,35 @@ pub fn find_prints(input: &[u8]) -> Line
         Outcome::Breach(n) => breach_line(wide(n), places),
         Outcome::Clear => none_line(),
         Outcome::Refused(x) => refusal_line(x.number, x.line),
+    }
+}
+
+fn no_line() -> Line
+    ensures { λ r. ⌜ Prints [] (r .bytes) (r .len) ⌝ }
+{
+    Line {
+        bytes: [0; 32],
+        len: 0,
+    }
+}
+
+// What the normaliser program prints.
+pub fn normalise_prints(input: &[u8], space: &mut [u8]) -> Parts
+    ensures prints { λ r. ⌜ PrintsNormal (now (input .entry)) (now (space .entry)) r (now (space .exit)) ⌝ }
+{
+    if MOST_INPUT < input.len() {
+        let line = refusal_line(11, 0);
+        return Parts { text: 0, line };
+    }
+    let written = normaliser::normalise(input, space);
+    match written {
+        Written::Wrote(n) => {
+            let line = no_line();
+            Parts { text: n, line }
+        }
+        Written::Refused(x) => {
+            let line = refusal_line(x.number, x.line);
+            Parts { text: 0, line }
+        }
     }
 }

@@ -1,0 +1,64 @@
+//! An efficient finder and normaliser, unproved: what a good implementation costs. One pass over the bytes, congruence closure
+//! by a work list, and a search that narrows the candidates of the variables before each choice.
+
+pub mod closing;
+pub mod model;
+pub mod narrow;
+pub mod plain;
+pub mod search;
+pub mod sets;
+pub mod text;
+pub mod values;
+mod writing;
+
+use model::Model;
+use text::{read, Refusal, Text};
+
+#[derive(Clone, Copy, Debug, PartialEq)]
+pub enum Found {
+    Breach(usize, [u16; 4]),
+    None,
+    Refused(Refusal),
+}
+
+pub fn find(bytes: &[u8]) -> Found {
+    match judge(bytes) {
+        Err(why) => Found::Refused(why),
+        Ok((text, representatives)) => {
+            let model = Model::of(&text, representatives);
+            let mut search = search::Search::of(&model, &text);
+            reply(&text, search.first())
+        }
+    }
+}
+
+/// The representatives of a text that the finder does not refuse.
+pub fn judge(bytes: &[u8]) -> Result<(Text, Vec<u16>), Refusal> {
+    let text = read(bytes)?;
+    if text.literals.is_empty() {
+        return Err(Refusal { number: 8, place: 0 });
+    }
+    let representatives = consistent(&text)?;
+    Ok((text, representatives))
+}
+
+pub fn reply(text: &Text, first: Option<[u16; 4]>) -> Found {
+    first.map_or(Found::None, |rows| Found::Breach(text.variables, rows))
+}
+
+/// The representatives, or refusal 9.
+fn consistent(text: &Text) -> Result<Vec<u16>, Refusal> {
+    let representatives = closing::close(&text.rows, &text.equations);
+    let same = |pair: &(u16, u16)| representatives[pair.0 as usize] == representatives[pair.1 as usize];
+    match text.differences.iter().position(same) {
+        Some(index) => Err(Refusal { number: 9, place: index as u16 + 1 }),
+        None => Ok(representatives),
+    }
+}
+
+/// Writes the normal text, and gives its length.
+pub fn normalise(bytes: &[u8], lent: &mut [u8]) -> Result<usize, Refusal> {
+    let text = read(bytes)?;
+    let representatives = consistent(&text)?;
+    writing::write_normal(bytes, &text, &representatives, lent)
+}

@@ -1,0 +1,122 @@
+//! How many texts had which reply, and whether each kind had its share.
+
+use crate::generate::{late, some_literal_holds};
+use reference::text::{read, Refusal};
+use reference::{find, normalise, Found, INPUT_LIMIT};
+use std::collections::BTreeMap;
+
+#[derive(Default)]
+pub struct Tally {
+    texts: usize,
+    replies: BTreeMap<String, usize>,
+    many_breaches: usize,
+    telling_none: usize,
+    late_breaches: usize,
+    /// Texts that some reply refused by this number.
+    refusals: [usize; 12],
+    sizes: Sizes,
+}
+
+/// The most of everything in a text without a faulty line.
+#[derive(Default)]
+struct Sizes {
+    rows: usize,
+    merged: usize,
+    patterns: usize,
+    literals: usize,
+}
+
+/// Texts from which on the shares are asked for.
+const ENOUGH: usize = 1_000;
+
+impl Tally {
+    /// A text with the space lent to the normaliser, and whether programs were run on it.
+    pub fn add(&mut self, text: &[u8], space: usize, by_programs: bool) {
+        self.texts += 1;
+        let mut refused = [false; 12];
+        self.add_found(text, &mut refused);
+        self.add_normal(normalise(text, space), &mut refused);
+        if by_programs {
+            let long = text.len() > INPUT_LIMIT;
+            refused[11] |= long;
+            self.count(if long { "programs: refusal 11" } else { "programs: another reply" });
+        }
+        for (number, refused) in refused.into_iter().enumerate() {
+            self.refusals[number] += usize::from(refused);
+        }
+        self.measure(text);
+    }
+
+    fn count(&mut self, reply: &str) {
+        *self.replies.entry(reply.to_string()).or_default() += 1;
+    }
+
+    fn add_found(&mut self, text: &[u8], refused: &mut [bool; 12]) {
+        match find(text) {
+            Found::Breach(rows) => {
+                self.many_breaches += usize::from(rows.len() >= 2);
+                self.late_breaches += usize::from(late(text, &rows));
+                self.count(&format!("find: breach of {} variables", rows.len()));
+            }
+            Found::None if some_literal_holds(text) => {
+                self.telling_none += 1;
+                self.count("find: none, some literal holds under some assignment");
+            }
+            Found::None => self.count("find: none, no literal ever holds"),
+            Found::Refused(why) => {
+                refused[usize::from(why.number)] = true;
+                self.count(&format!("find: refusal {}", why.number));
+            }
+        }
+    }
+
+    fn add_normal(&mut self, reply: Result<Vec<u8>, Refusal>, refused: &mut [bool; 12]) {
+        match reply {
+            Ok(_) => self.count("normalise: written"),
+            Err(why) => {
+                refused[usize::from(why.number)] = true;
+                self.count(&format!("normalise: refusal {:2}", why.number));
+            }
+        }
+    }
+
+    fn measure(&mut self, text: &[u8]) {
+        if let Ok(text) = read(text) {
+            let class = reference::closing::close(&text.rows, &text.equations);
+            let merged = class.iter().enumerate().filter(|(row, class)| row != *class).count();
+            let sizes = &mut self.sizes;
+            sizes.rows = sizes.rows.max(text.rows.len());
+            sizes.merged = sizes.merged.max(merged);
+            sizes.patterns = sizes.patterns.max(text.patterns.len());
+            sizes.literals = sizes.literals.max(text.literals.len());
+        }
+    }
+
+    pub fn print(&self) {
+        for (reply, count) in &self.replies {
+            println!("{:8}  {}", count, reply);
+        }
+        println!("{:8}  breaches are late: variable 0 has a row of the last half", self.late_breaches);
+        let sizes = &self.sizes;
+        println!(
+            "largest: {} rows, {} of them merged, {} pattern rows, {} literals",
+            sizes.rows, sizes.merged, sizes.patterns, sizes.literals
+        );
+    }
+
+    /// The shares that were missed. Refusal 11 is asked for where programs are run.
+    pub fn missed(&self, programs: bool) -> Vec<String> {
+        let mut missed = Vec::new();
+        let mut ask = |what: String, count: usize, of: usize| {
+            if self.texts >= ENOUGH && count * of < self.texts {
+                missed.push(format!("share missed: {} of {} texts {}, fewer than one in {}", count, self.texts, what, of));
+            }
+        };
+        ask("are breaches with two or more variables".into(), self.many_breaches, 4);
+        ask("are none with a literal that holds somewhere".into(), self.telling_none, 4);
+        for number in 1..=if programs { 11 } else { 10 } {
+            ask(format!("are refused by {}", number), self.refusals[number], 100);
+        }
+        missed
+    }
+}

@@ -1,0 +1,88 @@
+//! An independent checker, written from the rules of the text alone. Obvious before fast: it closes by comparing all pairs
+//! of terms, and tries every assignment in order.
+
+pub mod breach;
+pub mod closing;
+pub mod normal;
+pub mod text;
+
+use breach::first_breach;
+use closing::{close, first_clash};
+use text::{read, refusal, Refusal};
+
+/// What the finder replies.
+#[derive(Clone, Debug, PartialEq)]
+pub enum Found {
+    Breach(Vec<usize>),
+    None,
+    Refused(Refusal),
+}
+
+pub fn find(bytes: &[u8]) -> Found {
+    match judge(bytes) {
+        Err(refused) => Found::Refused(refused),
+        Ok(None) => Found::None,
+        Ok(Some(rows)) => Found::Breach(rows),
+    }
+}
+
+/// After the faulty lines 8, then 9.
+fn judge(bytes: &[u8]) -> Result<Option<Vec<usize>>, Refusal> {
+    let text = read(bytes)?;
+    if text.literals.is_empty() {
+        return Err(refusal(8, 0));
+    }
+    let class = close(&text.rows, &text.equations);
+    match first_clash(&class, &text.differences) {
+        Some(ordinal) => Err(refusal(9, ordinal)),
+        None => Ok(first_breach(&text)),
+    }
+}
+
+/// The normal text, for which so much space is lent. After the faulty lines 9, then 10.
+pub fn normalise(bytes: &[u8], space: usize) -> Result<Vec<u8>, Refusal> {
+    let text = read(bytes)?;
+    let class = close(&text.rows, &text.equations);
+    if let Some(ordinal) = first_clash(&class, &text.differences) {
+        return Err(refusal(9, ordinal));
+    }
+    let normal = normal::normal_text(&text, &class);
+    if normal.len() > space {
+        return Err(refusal(10, 0));
+    }
+    Ok(normal)
+}
+
+/// What a program takes in.
+pub const INPUT_LIMIT: usize = 16_384;
+
+/// What the finder program prints.
+pub fn find_prints(input: &[u8]) -> Vec<u8> {
+    if input.len() > INPUT_LIMIT {
+        return refusal_line(&refusal(11, 0));
+    }
+    found_line(&find(input))
+}
+
+/// What the normaliser program prints.
+pub fn normalise_prints(input: &[u8]) -> Vec<u8> {
+    if input.len() > INPUT_LIMIT {
+        return refusal_line(&refusal(11, 0));
+    }
+    normalise(input, usize::MAX).unwrap_or_else(|refused| refusal_line(&refused))
+}
+
+pub fn found_line(found: &Found) -> Vec<u8> {
+    match found {
+        Found::Breach(rows) => {
+            let rows: Vec<u8> = rows.iter().map(|row| *row as u8).collect();
+            normal::line(&[&[8, rows.len() as u8], &rows[..]].concat())
+        }
+        Found::None => normal::line(&[9]),
+        Found::Refused(refused) => refusal_line(refused),
+    }
+}
+
+pub fn refusal_line(refused: &Refusal) -> Vec<u8> {
+    normal::line(&[10, refused.number, (refused.place / 256) as u8, (refused.place % 256) as u8])
+}

@@ -1,0 +1,14 @@
+//! reference find | normalise     a text on standard input, the program's reply on standard output
+
+use std::io::{Read, Write};
+
+fn main() {
+    let mut input = Vec::new();
+    std::io::stdin().read_to_end(&mut input).expect("standard input");
+    let reply = match std::env::args().nth(1).as_deref() {
+        Some("find") => reference::find_prints(&input),
+        Some("normalise") => reference::normalise_prints(&input),
+        _ => panic!("reference find | normalise"),
+    };
+    std::io::stdout().write_all(&reply).expect("standard output");
+}

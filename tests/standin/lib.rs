@@ -1,0 +1,38 @@
+//! The two functions of the C boundary over the reference: what stands in for the library, rightly or, after an edit, wrongly.
+
+#[path = "../boundary.rs"]
+#[allow(dead_code)]
+mod boundary;
+
+use boundary::{breach, refused, written, Rows, NONE};
+use reference::{find, normalise, Found};
+
+/// # Safety
+/// `text` has `length` bytes.
+#[no_mangle]
+pub unsafe extern "C" fn checker_find(text: *const u8, length: usize, rows: &mut Rows) -> u64 {
+    match find(std::slice::from_raw_parts(text, length)) {
+        Found::None => NONE,
+        Found::Refused(why) => refused(why.number, why.place),
+        Found::Breach(found) => {
+            let (reply, places) = breach(&found);
+            *rows = places;
+            reply
+        }
+    }
+}
+
+/// # Safety
+/// `text` has `length` bytes, and `lent` has `space`.
+#[no_mangle]
+pub unsafe extern "C" fn checker_normalise(text: *const u8, length: usize, lent: *mut u8, space: usize) -> u64 {
+    let lent = std::slice::from_raw_parts_mut(lent, space);
+    match normalise(std::slice::from_raw_parts(text, length), space) {
+        Err(why) => refused(why.number, why.place),
+        Ok(normal) => {
+            let bytes = normal.len();
+            lent[..bytes].copy_from_slice(&normal);
+            written(bytes)
+        }
+    }
+}
