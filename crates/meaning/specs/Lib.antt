@@ -11,4 +11,5 @@ pub mod ByTable
 pub mod Values
 pub mod FirstBy
 pub mod Sheet
+pub mod Packing
 pub mod Demands
