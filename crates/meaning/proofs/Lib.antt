@@ -1,5 +1,5 @@
 -- The root of the laws, by subject: truth values and lists; terms and the model theorem; a closing; what is kept apart; the search for a first
--- breach; the values of pattern rows; texts; normal texts and demand 3; what is computed, the sheet and the controls.
+-- breach; the values of pattern rows; texts; normal texts and demand 3; what is computed, the sheet and the controls; grounds for a breach.
 pub mod Logic
 pub mod Lists
 pub mod Table
@@ -49,3 +49,10 @@ pub mod Computes
 pub mod Answered
 pub mod Sheet
 pub mod Controls
+pub mod Grounded
+pub mod Entries
+pub mod Faithful
+pub mod Cited
+pub mod Checks
+pub mod Verdicts
+pub mod GroundControls

@@ -2,6 +2,7 @@
 pub mod Context
 pub mod Equality
 pub mod Rules
+pub mod Grounds
 pub mod Text
 pub mod Writing
 pub mod Replies
@@ -13,3 +14,5 @@ pub mod FirstBy
 pub mod Sheet
 pub mod Packing
 pub mod Demands
+pub mod Checking
+pub mod GroundColumns

@@ -1,0 +1,59 @@
+-- Steps and conclusions in columns: a step is three words of 64 bits, a conclusion a place for each of its fields.
+--     leftRef, rightRef, ownerOf, kindIn, numbersIn   the fields in the words, high byte first: owner (1), kind (1), left (3), right (3); four numbers of 4 bytes
+--     stepsFrom                                       as many steps as the shortest column has places
+--     conclusionsFrom                                 a place for each literal; an absent conclusion cites step 0
+--     pairsFrom                                       pairs in two columns
+-- Assumes nothing.
+use mathlib.Core.List.{List, [], _∷_, _++_, map}
+use Prim.Native.Nat.{ℕ, zero, suc, _/_, _%_}
+use lib.ListN.{getD}
+use Rattle.meaning.specs.Grounds.{Ref, Step, Conclusion}
+
+abbrev pub ownerOf : ℕ → ℕ
+ownerOf x = x / 72057594037927936
+
+abbrev pub kindIn : ℕ → ℕ
+kindIn x = x / 281474976710656 % 256
+
+abbrev pub leftRef : ℕ → Ref
+leftRef x = record { mark = x / 1099511627776 % 256; row = x / 16777216 % 65536 }
+
+abbrev pub rightRef : ℕ → Ref
+rightRef x = record { mark = x / 65536 % 256; row = x % 65536 }
+
+abbrev pub numbersIn : ℕ → ℕ → List ℕ
+numbersIn y z = y / 4294967296 ∷ y % 4294967296 ∷ z / 4294967296 ∷ z % 4294967296 ∷ []
+
+unfoldable pub stepFrom : ℕ → ℕ → ℕ → Step
+stepFrom x y z = record { owner = ownerOf x; kind = kindIn x; left = leftRef x; right = rightRef x; numbers = numbersIn y z }
+
+unfoldable pub stepsFrom : List ℕ → List ℕ → List ℕ → List Step
+stepsFrom [] ys zs = []
+stepsFrom (x ∷ xs) [] zs = []
+stepsFrom (x ∷ xs) (y ∷ ys) [] = []
+stepsFrom (x ∷ xs) (y ∷ ys) (z ∷ zs) = stepFrom x y z ∷ stepsFrom xs ys zs
+
+-- steps by their first words, where only their sides are read
+unfoldable pub sidesOf : List ℕ → List Step
+sidesOf words = map (λ x. stepFrom x 0 0) words
+
+unfoldable pub conclusionFrom : List ℕ → List ℕ → List ℕ → List ℕ → ℕ → Conclusion
+conclusionFrom firsts seconds differences orientations i =
+    record {
+      literal = suc i;
+      first = getD firsts i 0;
+      second = getD seconds i 0;
+      difference = getD differences i 0;
+      orientation = getD orientations i 0;
+    }
+
+-- for the first n literals
+unfoldable pub conclusionsFrom : List ℕ → List ℕ → List ℕ → List ℕ → ℕ → List Conclusion
+conclusionsFrom firsts seconds differences orientations zero = []
+conclusionsFrom firsts seconds differences orientations (suc n) =
+    conclusionsFrom firsts seconds differences orientations n ++ (conclusionFrom firsts seconds differences orientations n ∷ [])
+
+-- the first n
+unfoldable pub pairsFrom : List ℕ → List ℕ → ℕ → List (ℕ × ℕ)
+pairsFrom lefts rights zero = []
+pairsFrom lefts rights (suc n) = pairsFrom lefts rights n ++ ((getD lefts n 0, getD rights n 0) ∷ [])

@@ -1,0 +1,20 @@
+-- `numbering::table::entry_key` meets its contract. The context's rows come first.
+-- Assumes nothing.
+use Rattle.numbering.proofs.Filling.{mine}
+use Rattle.numbering.proofs.table.entry_key.Statement.{statement}
+use Rattle.numbering.proofs.table.entry_key.Tie as tie
+
+row-key-requires : tie.Need-row-key-requires
+row-key-requires c κs = search mine
+
+returns : tie.Need-returns
+returns c = (search mine, search mine)
+
+clause-key-requires : tie.Need-clause-key-requires
+clause-key-requires c κs = (search mine, (search mine, search mine))
+
+returns-2 : tie.Need-returns-2
+returns-2 c = (search mine, search mine)
+
+pub entry-key-spec : {M : Type 1} → statement M
+entry-key-spec = tie.close (tie.spec row-key-requires returns clause-key-requires returns-2)

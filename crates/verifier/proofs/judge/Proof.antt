@@ -1,0 +1,34 @@
+-- `verifier::judge` meets its contract. Where every variable passed the test, each has a row, and the steps decide.
+-- Assumes nothing.
+use Rattle.verifier.proofs.Judging.{mine}
+use Rattle.verifier.proofs.judge.Statement.{statement}
+use Rattle.verifier.proofs.judge.Tie as tie
+
+variables-requires : tie.Need-variables-requires
+variables-requires c κs = search mine
+
+first-unassigned-requires : tie.Need-first-unassigned-requires
+first-unassigned-requires c κs = search mine
+
+returns : tie.Need-returns
+returns c = search mine
+
+places-requires : tie.Need-places-requires
+places-requires c κs = search mine
+
+judge-steps-requires : tie.Need-judge-steps-requires
+judge-steps-requires c κs = (search mine, (search mine, search mine))
+
+returns-2 : tie.Need-returns-2
+returns-2 c = search mine
+
+pub judge-spec : {M : Type 1} → statement M
+judge-spec =
+    tie.close
+    (tie.spec
+    variables-requires
+    first-unassigned-requires
+    returns
+    places-requires
+    judge-steps-requires
+    returns-2)

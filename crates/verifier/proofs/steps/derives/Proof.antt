@@ -1,0 +1,50 @@
+-- `verifier::steps::derives` meets its contract. The kind says what has to be shown.
+-- Assumes nothing.
+use Rattle.verifier.proofs.Following.{mine}
+use Rattle.verifier.proofs.steps.derives.Statement.{statement}
+use Rattle.verifier.proofs.steps.derives.Tie as tie
+
+paired-requires : tie.Need-paired-requires
+paired-requires c κs = search mine
+
+returns : tie.Need-returns
+returns c = search mine
+
+returns-2 : tie.Need-returns-2
+returns-2 c = search mine
+
+cited-requires : tie.Need-cited-requires
+cited-requires c κs = search mine
+
+returns-3 : tie.Need-returns-3
+returns-3 c = search mine
+
+met-requires : tie.Need-met-requires
+met-requires c κs = search mine
+
+returns-4 : tie.Need-returns-4
+returns-4 c = search mine
+
+congruent-requires : tie.Need-congruent-requires
+congruent-requires c κs = (search mine, (search mine, (search mine, (search mine, search mine))))
+
+returns-5 : tie.Need-returns-5
+returns-5 c = search mine
+
+returns-6 : tie.Need-returns-6
+returns-6 c = search mine
+
+pub derives-spec : {M : Type 1} → statement M
+derives-spec =
+    tie.close
+    (tie.spec
+    paired-requires
+    returns
+    returns-2
+    cited-requires
+    returns-3
+    met-requires
+    returns-4
+    congruent-requires
+    returns-5
+    returns-6)
