@@ -21,7 +21,8 @@ use Rattle.closing.specs.declared.Answer.the-variants.{Closed, Unfit}
 use Rattle.closing.specs.declared.Classes.{Classes}
 use Rattle.closing.specs.declared.Contradiction.{Contradiction}
 use Rattle.closing.specs.declared.Contradiction.the-variants.{First, Clear}
-use Rattle.closing.specs.Claims.{FitColumns, Own, Closes, clashing}
+use Rattle.columns.specs.Fit.{FitContext}
+use Rattle.closing.specs.Claims.{Own, Closes, clashing}
 use Rattle.closing.proofs.Pairs.{pairAt, kept, pairsFrom, isDifference, differences-are}
 
 own-one : (t u : List ℕ) → Own t → Own u → t ≡ u
@@ -40,7 +41,7 @@ module _ (symbols counts args : List ℕ) (n : ℕ) (kinds lefts rights : List �
       let w : (r .answer ≡ s .answer) × (r .table ≡ s .table) = same-parts (r .answer) (s .answer) (r .table) (s .table) p q in
       ap₂ (λ (a : Answer) (t : List ℕ). record { answer = a; table = t }) (w .0) (w .1)
 
-  pub closes-fit : (a : Answer) (t : List ℕ) → FitColumns symbols counts args n kinds lefts rights m → Closes symbols counts args n kinds lefts rights m a t
+  pub closes-fit : (a : Answer) (t : List ℕ) → FitContext symbols counts args n kinds lefts rights m → Closes symbols counts args n kinds lefts rights m a t
       → (a ≡ Closed) × Promise (contextFrom symbols counts args n kinds lefts rights m) 255 t
   closes-fit Closed t f p = (refl, p .1)
   closes-fit Unfit t f p = absurd (p .0 f)

@@ -16,7 +16,6 @@ use Rattle.meaning.proofs.Closes.{length-count, repAt-count}
 use Rattle.closing.specs.declared.Answer.{Answer}
 use Rattle.closing.specs.declared.Answer.the-variants.{Closed}
 use Rattle.closing.proofs.Examples.{ClosesIn, p9, p9-zero, p9-says, p9-fits, p9-equal}
-use Rattle.closing.proofs.Columns.{fits-columns}
 
 pub no-equations-once : (x : Answer) → ClosesIn p9 x (statedPass (equations p9) (count 255 0)) → ⊥
 unfolding statedPass upto unite move count equationsOf
@@ -52,7 +51,7 @@ all-own (suc (suc (suc (suc (suc zero))))) h k = absurd (omega arith)
 all-own (suc (suc (suc (suc (suc (suc i)))))) h k = omega (arith, repAt-count 249 6 i (omega arith))
 
 pub some-closed : ClosesIn p9 Closed all
-some-closed = (fits-columns _ _ _ _ _ _ _ _ p9-fits, rw p9-says promise)
+some-closed = (p9-fits, rw p9-says promise)
   where
     promise : Promise p9 255 all
     promise =

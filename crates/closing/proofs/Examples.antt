@@ -2,21 +2,20 @@
 --     p9-zero     rows a, f(a) .. f applied five times; rows 3 and 5 stated equal to row 0: each of the six places holds 0
 --     p10-zero    the constant a twice: both places hold 0
 -- Assumes nothing.
-use mathlib.Core.Bool.{true}
 use mathlib.Core.List.{List, [], _∷_, map}
 use mathlib.Core.Path.{_≡_, refl}
-use Prim.Native.Nat.{ℕ, zero, suc, _<_}
+use Prim.Native.Nat.{ℕ, zero, suc, _≤_, _<_}
 use native.Mathlib.Omega.{arith}
-use lib.ListN.{length}
-use Rattle.meaning.specs.Context.{Row, Context, same, Term, node, stop, more, pick, grow, terms, termAt, equationsOf}
+use lib.ListN.{length, getD}
+use Rattle.meaning.specs.Context.{Row, Context, same, Term, node, stop, more, pick, grow, terms, termAt, equationsOf, equations, differencesOf}
 use Rattle.meaning.specs.Equality.{EqualIn, given, reflexive, symmetric, transitive, congruent, same-stop, same-more, repAt, Promise}
+use Rattle.meaning.specs.Formed.{Ordered, Within}
 use Rattle.meaning.specs.Columns.{contextFrom, rowsFrom, statementsFrom, statementOf, pad, fours, symbolsOf, countsOf, argumentsOf, kindOf, firstOf, secondOf}
+use Rattle.columns.specs.Fit.{FitContext}
 use Rattle.closing.specs.declared.Answer.{Answer}
 use Rattle.closing.specs.declared.Answer.the-variants.{Closed}
 use Rattle.closing.specs.Claims.{Closes}
 use Rattle.closing.proofs.Answers.{closes-fit}
-use Rattle.closing.proofs.Columns.{fits-columns}
-use Rattle.closing.specs.Steps.{fits, every, rowFits, argBefore, statementFits}
 
 -- a context in the columns of `close`
 abbrev pub ClosesIn : Context → Answer → List ℕ → Type 0
@@ -24,6 +23,12 @@ ClosesIn c a t =
     Closes (pad 255 (symbolsOf (c .rows))) (pad 255 (countsOf (c .rows))) (pad 1020 (argumentsOf (c .rows))) (length (c .rows))
     (pad 510 (map kindOf (c .statements))) (pad 510 (map firstOf (c .statements))) (pad 510 (map secondOf (c .statements))) (length (c .statements))
     a t
+
+-- and that they are fit
+abbrev pub FitIn : Context → Type 0
+FitIn c =
+    FitContext (pad 255 (symbolsOf (c .rows))) (pad 255 (countsOf (c .rows))) (pad 1020 (argumentsOf (c .rows))) (length (c .rows))
+    (pad 510 (map kindOf (c .statements))) (pad 510 (map firstOf (c .statements))) (pad 510 (map secondOf (c .statements))) (length (c .statements))
 
 abbrev f : ℕ → Row
 f i = record { symbol = 1; args = i ∷ [] }
@@ -49,9 +54,40 @@ pub p9-says : contextFrom (pad 255 (symbolsOf (p9 .rows))) (pad 255 (countsOf (p
 unfolding contextFrom rowsFrom statementsFrom statementOf pad fours
 p9-says = refl
 
-pub p9-fits : fits (pad 255 (countsOf (p9 .rows))) (pad 1020 (argumentsOf (p9 .rows))) 6 (pad 510 (map firstOf (p9 .statements))) (pad 510 (map secondOf (p9 .statements))) 2 ≡ true
-unfolding fits every rowFits argBefore statementFits pad fours
-p9-fits = refl
+p9-ordered : Ordered (p9 .rows)
+p9-ordered zero h = tt
+p9-ordered (suc zero) h = (omega arith, tt)
+p9-ordered (suc (suc zero)) h = (omega arith, tt)
+p9-ordered (suc (suc (suc zero))) h = (omega arith, tt)
+p9-ordered (suc (suc (suc (suc zero)))) h = (omega arith, tt)
+p9-ordered (suc (suc (suc (suc (suc zero))))) h = (omega arith, tt)
+p9-ordered (suc (suc (suc (suc (suc (suc i)))))) h = absurd (omega arith)
+
+p9-within : Within 6 (equations p9)
+unfolding equationsOf
+p9-within zero h = (omega arith, omega arith)
+p9-within (suc zero) h = (omega arith, omega arith)
+p9-within (suc (suc k)) h = absurd (omega arith)
+
+p9-counts : (i : ℕ) → i < 6 → getD (pad 255 (countsOf (p9 .rows))) i 0 ≤ 4
+unfolding pad
+p9-counts zero h = omega arith
+p9-counts (suc zero) h = omega arith
+p9-counts (suc (suc zero)) h = omega arith
+p9-counts (suc (suc (suc zero))) h = omega arith
+p9-counts (suc (suc (suc (suc zero)))) h = omega arith
+p9-counts (suc (suc (suc (suc (suc zero))))) h = omega arith
+p9-counts (suc (suc (suc (suc (suc (suc i)))))) h = absurd (omega arith)
+
+pub p9-fits : FitIn p9
+unfolding differencesOf
+p9-fits =
+    record {
+      rows-few = omega arith;
+      statements-few = omega arith;
+      counts-few = p9-counts;
+      fit = rw p9-says (record { ordered = p9-ordered; within = p9-within; apart = λ k h. absurd (omega arith) });
+    }
 
 -- f applied i times
 abbrev t9 : ℕ → Term
@@ -94,7 +130,7 @@ p9-equal (suc (suc (suc (suc (suc (suc i)))))) h = absurd (omega arith)
 
 pub p9-zero : (x : Answer) (t : List ℕ) → ClosesIn p9 x t → (x ≡ Closed) × ((i : ℕ) → i < 6 → repAt t i ≡ 0)
 p9-zero x t c =
-    let w = closes-fit _ _ _ _ _ _ _ _ x t (fits-columns _ _ _ _ _ _ _ _ p9-fits) c in
+    let w = closes-fit _ _ _ _ _ _ _ _ x t p9-fits c in
     (w .0, λ i h. lowest-zero p9 255 t (rw p9-says at (w .1)) i h (omega arith) (p9-equal i h))
 
 -- ---- P10
@@ -105,9 +141,26 @@ p10-says : contextFrom (pad 255 (symbolsOf (p10 .rows))) (pad 255 (countsOf (p10
 unfolding contextFrom rowsFrom statementsFrom pad fours
 p10-says = refl
 
-p10-fits : fits (pad 255 (countsOf (p10 .rows))) (pad 1020 (argumentsOf (p10 .rows))) 2 (pad 510 (map firstOf (p10 .statements))) (pad 510 (map secondOf (p10 .statements))) 0 ≡ true
-unfolding fits every rowFits argBefore statementFits pad fours
-p10-fits = refl
+p10-ordered : Ordered (p10 .rows)
+p10-ordered zero h = tt
+p10-ordered (suc zero) h = tt
+p10-ordered (suc (suc i)) h = absurd (omega arith)
+
+p10-counts : (i : ℕ) → i < 2 → getD (pad 255 (countsOf (p10 .rows))) i 0 ≤ 4
+unfolding pad
+p10-counts zero h = omega arith
+p10-counts (suc zero) h = omega arith
+p10-counts (suc (suc i)) h = absurd (omega arith)
+
+p10-fits : FitIn p10
+unfolding equationsOf differencesOf
+p10-fits =
+    record {
+      rows-few = omega arith;
+      statements-few = omega arith;
+      counts-few = p10-counts;
+      fit = rw p10-says (record { ordered = p10-ordered; within = λ k h. absurd (omega arith); apart = λ k h. absurd (omega arith) });
+    }
 
 p10-equal : (i : ℕ) → i < 2 → EqualIn p10 (termAt (p10 .rows) i) (termAt (p10 .rows) 0)
 unfolding terms grow pick
@@ -117,5 +170,5 @@ p10-equal (suc (suc i)) h = absurd (omega arith)
 
 pub p10-zero : (x : Answer) (t : List ℕ) → ClosesIn p10 x t → (x ≡ Closed) × ((i : ℕ) → i < 2 → repAt t i ≡ 0)
 p10-zero x t c =
-    let w = closes-fit _ _ _ _ _ _ _ _ x t (fits-columns _ _ _ _ _ _ _ _ p10-fits) c in
+    let w = closes-fit _ _ _ _ _ _ _ _ x t p10-fits c in
     (w .0, λ i h. lowest-zero p10 255 t (rw p10-says at (w .1)) i h (omega arith) (p10-equal i h))

@@ -4,7 +4,6 @@ pub mod Examples
 mod Chains
 mod Clashes
 mod Columns
-mod Fitting
 mod Merges
 mod Pairs
 mod Rounds

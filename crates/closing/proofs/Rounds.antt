@@ -6,7 +6,7 @@ use mathlib.Core.Bool.{Bool, true, false}
 use mathlib.Core.List.{List}
 use mathlib.Core.Path.{_≡_, refl, ap, sym, _∙_, subst}
 use mathlib.Core.Logic.{⊎-elim}
-use Prim.Native.Nat.{ℕ, zero, suc, _≤_, _<_}
+use Prim.Native.Nat.{ℕ, zero, suc, _*_, _≤_, _<_}
 use native.Mathlib.Omega.{arith}
 use lib.Dec.{eqb}
 use lib.ListN.{length, getD}
@@ -19,7 +19,7 @@ use Rattle.meaning.specs.Columns.{rowsFrom, statementsFrom, contextFrom}
 use Rattle.meaning.proofs.Progress.{total}
 use Rattle.meaning.proofs.Closing.{unite, upto, count}
 use Rattle.meaning.proofs.Promised.{closed-representatives}
-use Rattle.closing.specs.Claims.{FitColumns}
+use Rattle.columns.specs.Fit.{FitContext}
 use Rattle.closing.specs.Steps.{Laid, stateStep, Kept, Grown, Outcome, Alike, Passed}
 use Rattle.closing.proofs.Rows.{length-rows}
 use Rattle.closing.proofs.Merges.{kept-start, unite-outcome, unite-joins}
@@ -126,7 +126,7 @@ met-promise c fit l kept met alike =
 
 -- ---- the loop of passes over the rows
 pub record Rounding (symbols counts args : List ℕ) (n : ℕ) (kinds lefts rights : List ℕ) (m : ℕ) (t : List ℕ) (old : ℕ) : Type 0 where
-  pub fit : FitColumns symbols counts args n kinds lefts rights m
+  pub fit : FitContext symbols counts args n kinds lefts rights m
   pub laid : Laid counts args n
   pub kept : Kept (rowsFrom symbols counts args n) (equationsOf (statementsFrom kinds lefts rights m)) t
   pub met : Met (equationsOf (statementsFrom kinds lefts rights m)) t
@@ -140,17 +140,17 @@ module _ (symbols counts args : List ℕ) (n : ℕ) (kinds lefts rights : List �
   E = equationsOf (statementsFrom kinds lefts rights m)
 
   -- each side of an equation is a row
-  sides : FitColumns symbols counts args n kinds lefts rights m → Within (length R) E
+  sides : FitContext symbols counts args n kinds lefts rights m → Within (length R) E
   unfolding contextFrom
   sides f = f .fit .within
 
-  pub rounding-start : (l t : List ℕ) (old : ℕ) → FitColumns symbols counts args n kinds lefts rights m → length args ≡ 1020 → l ≡ count 255 0
+  pub rounding-start : (l t : List ℕ) (old : ℕ) → FitContext symbols counts args n kinds lefts rights m → n * 4 ≤ length args → l ≡ count 255 0
       → t ≡ upto m (stateStep kinds lefts rights) l → old ≡ total n (repAt t) → Rounding symbols counts args n kinds lefts rights m t old
   rounding-start l t old fit long el et s =
-      record { fit = fit; laid = record { long = long; room = fit .rows; few = fit .few }; kept = w .0; met = w .1; so = s }
+      record { fit = fit; laid = record { long = long; room = fit .rows-few; few = fit .counts-few }; kept = w .0; met = w .1; so = s }
     where
       room : length R ≤ 255
-      room = omega (arith, length-rows symbols counts args n, fit .rows)
+      room = omega (arith, length-rows symbols counts args n, fit .rows-few)
 
       w : Kept R E t × Met E t
       w =
@@ -173,7 +173,7 @@ module _ {symbols counts args : List ℕ} {n : ℕ} {kinds lefts rights : List �
   met-on : Met E′ u
   met-on p h =
       let w : (leftAt E′ p < length R′) × (rightAt E′ p < length R′) = sides symbols counts args n kinds lefts rights m (r .fit) p h in
-      let long : length R′ ≤ 255 = omega (arith, length-rows symbols counts args n, r .fit .rows) in
+      let long : length R′ ≤ 255 = omega (arith, length-rows symbols counts args n, r .fit .rows-few) in
       outcome .grown (leftAt E′ p) (rightAt E′ p) (omega (arith, w .0)) (omega (arith, w .1)) (r .met p h)
 
   sums : (x : List ℕ) → total (length R′) (repAt x) ≡ total n (repAt x)

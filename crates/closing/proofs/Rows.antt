@@ -67,7 +67,7 @@ comparing-done {l} {m} {k} c h =
 
 -- ---- the arguments of two rows compared
 
-module _ (args t : List ℕ) (i count : ℕ) (long : length args ≡ 1020) (inside : i < 255) (four : count ≤ 4) where
+module _ (args t : List ℕ) (i count : ℕ) (long : i * 4 + 4 ≤ length args) (four : count ≤ 4) where
   length-reps : length (argReps args t i count) ≡ count
   length-reps =
       length-map (take count (drop (i * 4) args)) (repAt t) ∙ omega (arith, length-take count (drop (i * 4) args), length-drop (i * 4) args)
@@ -90,19 +90,19 @@ agreeing-start args t i j count asks =
       rest = omega arith;
       lists = subst (Comparing (argReps args t i count) (argReps args t j count)) (omega arith)
           (comparing-start _ _
-          (length-reps args t i count (asks .long) (asks .first) (asks .four) ∙ sym (length-reps args t j count (asks .long) (asks .second) (asks .four))));
+          (length-reps args t i count (asks .first-long) (asks .four) ∙ sym (length-reps args t j count (asks .second-long) (asks .four))));
     }
 
 module _ {args t : List ℕ} {i j count left : ℕ} (g : Agreeing args t i j count left) where
   long-left : length (argReps args t i count) ≡ count
-  long-left = length-reps args t i count (g .asks .long) (g .asks .first) (g .asks .four)
+  long-left = length-reps args t i count (g .asks .first-long) (g .asks .four)
 
   module _ {a b : ℕ} (more : 0 < left) (ea : a ≡ repAt t (getD args (i * 4 + (count - left)) 0)) (eb : b ≡ repAt t (getD args (j * 4 + (count - left)) 0)) where
     at-left : getD (argReps args t i count) (count - left) 0 ≡ a
-    at-left = reps-at args t i count (g .asks .long) (g .asks .first) (g .asks .four) (count - left) (omega (arith, g .rest)) ∙ sym ea
+    at-left = reps-at args t i count (g .asks .first-long) (g .asks .four) (count - left) (omega (arith, g .rest)) ∙ sym ea
 
     at-right : getD (argReps args t j count) (count - left) 0 ≡ b
-    at-right = reps-at args t j count (g .asks .long) (g .asks .second) (g .asks .four) (count - left) (omega (arith, g .rest)) ∙ sym eb
+    at-right = reps-at args t j count (g .asks .second-long) (g .asks .four) (count - left) (omega (arith, g .rest)) ∙ sym eb
 
     in-left : count - left < length (argReps args t i count)
     in-left = omega (arith, long-left, g .rest)
@@ -149,7 +149,7 @@ module _ (symbols counts args : List ℕ) (n : ℕ) (t : List ℕ) (i j : ℕ) (
         m = argReps args t j (getD counts j 0)
 
         long : (k : ℕ) → k < n → length (argReps args t k (getD counts k 0)) ≡ getD counts k 0
-        long k h = length-reps args t k (getD counts k 0) (laid .long) (omega (arith, laid .room)) (laid .few k h)
+        long k h = length-reps args t k (getD counts k 0) (omega (arith, laid .long)) (laid .few k h)
 
         go : (b : Bool) → sameList l m ≡ b → false ≡ sameList l m
         go false f = sym f
@@ -163,7 +163,7 @@ module _ (symbols counts args : List ℕ) (n : ℕ) (t : List ℕ) (i j : ℕ) (
 
   pub agree-comparable : (c : ℕ) → c ≡ getD counts i 0 → Comparable args i j c
   agree-comparable c e =
-      record { long = laid .long; first = omega (arith, laid .room); second = omega (arith, laid .room); four = omega (arith, laid .few i hi) }
+      record { first = omega (arith, laid .room); second = omega (arith, laid .room); first-long = omega (arith, laid .long); second-long = omega (arith, laid .long); four = omega (arith, laid .few i hi) }
 
 -- the representative of an argument
 pub arg-class : (args t : List ℕ) (at x r : ℕ) → x ≡ getD args at 0 → r ≡ repAt t x → r ≡ repAt t (getD args at 0)
@@ -183,7 +183,7 @@ module _ (symbols counts args t : List ℕ) (n i x : ℕ) (hi : i < n) (ex : x �
   key-first y z laid d ey ez =
       let f : i * 4 + 0 ≡ i * 4 = omega arith in
       let e : getD (argReps args t i (getD counts i 0)) 0 0 ≡ z =
-      reps-at args t i (getD counts i 0) (laid .long) (omega (arith, laid .room)) (laid .few i hi) 0 (omega arith) ∙ ap (λ (k : ℕ). repAt t (getD args k 0)) f ∙ sym ey ∙ sym ez in
+      reps-at args t i (getD counts i 0) (omega (arith, laid .long)) (laid .few i hi) 0 (omega arith) ∙ ap (λ (k : ℕ). repAt t (getD args k 0)) f ∙ sym ey ∙ sym ez in
       rw (row-in symbols counts args n i hi, e, ← ex)
 
 pub ruleset mine = (

@@ -1,6 +1,5 @@
 -- What the inner functions of the closing ask and answer; no contract of a public function cites it.
 --     Laid, Comparable, sameArgs      two rows compared
---     every .. Tested                 the tests of the columns
 --     stateStep                       one statement of a pass over the statements
 --     keyOf, Last, Mate, Joined       chains of rows, and the search along one
 --     Kept, Grown, Outcome, Passed    the table between passes, and what a pass does to it
@@ -11,7 +10,7 @@ use mathlib.Core.List.{List, map}
 use mathlib.Core.Path.{_≡_}
 use mathlib.Core.Logic.{_⊎_}
 use Prim.Native.Nat.{ℕ, zero, suc, _+_, _*_, _%_, _≤_, _<_}
-use lib.Dec.{eqb, ltb, leb}
+use lib.Dec.{eqb}
 use lib.ListN.{length, getD, take, drop}
 use Rattle.meaning.specs.Context.{Row, rowAt}
 use Rattle.meaning.specs.Equality.{repAt}
@@ -22,15 +21,16 @@ use Rattle.meaning.proofs.Closing.{unite, agree}
 
 -- room for n rows, and no row has more than four arguments
 pub record Laid (counts args : List ℕ) (n : ℕ) : Type 0 where
-  pub long : length args ≡ 1020
+  pub long : n * 4 ≤ length args
   pub room : n ≤ 255
   pub few : (i : ℕ) → i < n → getD counts i 0 ≤ 4
 
 -- rows i and j have places for their arguments, and count is no more than there are for each
 pub record Comparable (args : List ℕ) (i j count : ℕ) : Type 0 where
-  pub long : length args ≡ 1020
   pub first : i < 255
   pub second : j < 255
+  pub first-long : i * 4 + 4 ≤ length args
+  pub second-long : j * 4 + 4 ≤ length args
   pub four : count ≤ 4
 
 -- the representatives of the first count arguments of row i
@@ -39,30 +39,6 @@ argReps args t i count = map (repAt t) (take count (drop (i * 4) args))
 
 unfoldable pub sameArgs : List ℕ → List ℕ → ℕ → ℕ → ℕ → Bool
 sameArgs args t i j count = sameList (argReps args t i count) (argReps args t j count)
-
--- ---- tests of the columns
-
--- f holds of 0, 1, .. n - 1
-unfoldable pub every : ℕ → (ℕ → Bool) → Bool
-every zero f = true
-every (suc n) f = every n f && f n
-
-unfoldable pub argBefore : List ℕ → ℕ → ℕ → Bool
-argBefore args i k = ltb (getD args (i * 4 + k) 0) i
-
-unfoldable pub rowFits : List ℕ → List ℕ → ℕ → Bool
-rowFits counts args i = leb (getD counts i 0) 4 && every (getD counts i 0) (argBefore args i)
-
-unfoldable pub statementFits : List ℕ → List ℕ → ℕ → ℕ → Bool
-statementFits lefts rights n k = ltb (getD lefts k 0) n && ltb (getD rights k 0) n
-
-unfoldable pub fits : List ℕ → List ℕ → ℕ → List ℕ → List ℕ → ℕ → Bool
-fits counts args n lefts rights m =
-    leb n 255 && (leb m 510 && (every n (rowFits counts args) && every m (statementFits lefts rights n)))
-
-pub record Tested (counts args : List ℕ) (n : ℕ) (lefts rights : List ℕ) (m : ℕ) (r : Bool) : Type 0 where
-  pub so : r ≡ fits counts args n lefts rights m
-  pub long : length args ≡ 1020
 
 -- ---- the stated equations
 

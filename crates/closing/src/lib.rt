@@ -1,12 +1,11 @@
 // The closing of a context that is handed over in columns: each row's representative, the lowest row that is equal to it. Nothing here
 // knows of texts.
 
-mod fit;
 mod mates;
 mod statements;
 mod table;
 
-use fit::fit;
+use columns::fit_context;
 use mates::join_rows;
 use statements::apart_at;
 use statements::clash_at;
@@ -15,13 +14,15 @@ use statements::join_stated;
 use table::own;
 use table::sum;
 ghost use mathlib.Core.Path.{_≡_};
+ghost use Prim.Native.Nat.{_*_, _≤_};
 ghost use lib.ListN.{length};
 ghost use Rattle.meaning.specs.Context.{differencesOf};
 ghost use Rattle.meaning.specs.Equality.{repAt, Promise};
 ghost use Rattle.meaning.specs.ByTable.{clashOf, apartBy};
 ghost use Rattle.meaning.specs.Columns.{statementsFrom, contextFrom};
 ghost use Rattle.meaning.proofs.Closing.{count as numbers};
-ghost use Rattle.closing.specs.Claims.{FitColumns, Closes, clashing};
+ghost use Rattle.columns.specs.Fit.{FitContext};
+ghost use Rattle.closing.specs.Claims.{Closes, clashing};
 
 pub enum Answer {
     Closed,
@@ -51,8 +52,8 @@ fn settle<'a>(
     statements: usize,
     table: &mut [u16; 255],
 )
-    requires { ⌜ FitColumns (now symbols) (now counts) (now args) rows (now kinds) (now lefts) (now rights) statements ⌝ }
-    requires { ⌜ length (now args) ≡ 1020 ⌝ }
+    requires { ⌜ FitContext (now symbols) (now counts) (now args) rows (now kinds) (now lefts) (now rights) statements ⌝ }
+    requires { ⌜ rows * 4 ≤ length (now args) ⌝ }
     requires { ⌜ now table ≡ numbers 255 0 ⌝ }
     ensures { λ _. ⌜ Promise (contextFrom (now (symbols .entry)) (now (counts .entry)) (now (args .entry)) rows (now (kinds .entry)) (now (lefts .entry)) (now (rights .entry)) statements) 255 (now (table .exit)) ⌝ }
 {
@@ -82,7 +83,16 @@ pub fn close<'a>(
     ensures closes { λ r. ⌜ Closes (now (symbols .entry)) (now (counts .entry)) (now (args .entry)) rows (now (kinds .entry)) (now (lefts .entry)) (now (rights .entry)) statements (r .answer) (r .table) ⌝ }
 {
     let mut table = own();
-    if fit(counts, args, rows, lefts, rights, statements) {
+    if fit_context(
+        symbols,
+        counts,
+        args,
+        rows,
+        kinds,
+        lefts,
+        rights,
+        statements,
+    ) {
         settle(
             symbols,
             counts,

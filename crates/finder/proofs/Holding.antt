@@ -94,9 +94,9 @@ module _ (text : List ℕ) (s : Read) (e : read narrow text ≡ taken s) where
       record {
         fit =
             record {
-              rows = kept .contextFits .fewRows;
-              statements = omega (arith, stated-few (c .statements), kept .contextFits .fewEquations, kept .contextFits .fewDifferences);
-              few = λ i h. rw (pad-at 255 (countsOf (c .rows)) i, List·getD-map (λ (r : Row). length (r .args)) (c .rows) i row₀) (count-at i h);
+              rows-few = kept .contextFits .fewRows;
+              statements-few = omega (arith, stated-few (c .statements), kept .contextFits .fewEquations, kept .contextFits .fewDifferences);
+              counts-few = λ i h. rw (pad-at 255 (countsOf (c .rows)) i, List·getD-map (λ (r : Row). length (r .args)) (c .rows) i row₀) (count-at i h);
               fit = rw read-said (read-formed narrow text s e .fit);
             };
         long = args-long;
@@ -174,4 +174,4 @@ pub clash-high : (c : ContextColumns) → Held c → (t : List ℕ) (r : Contrad
     → (n : ℕ) → r ≡ First n → n < 510
 unfolding contextFrom
 clash-high c h t r w n e =
-    omega (arith, clash-small (repAt t) (c .kinds) (c .lefts) (c .rights) (c .statements) n (sym w ∙ ap clashing e), h .fit .statements)
+    omega (arith, clash-small (repAt t) (c .kinds) (c .lefts) (c .rights) (c .statements) n (sym w ∙ ap clashing e), h .fit .statements-few)

@@ -34,7 +34,6 @@ use Rattle.closing.specs.Claims.{clashing}
 use Rattle.closing.specs.declared.Classes.{Classes}
 use Rattle.closing.specs.declared.Contradiction.{Contradiction}
 use Rattle.closing.specs.declared.Contradiction.the-variants.{First, Clear}
-use Rattle.columns.specs.Fit.{FitContext, FitClause}
 use Rattle.search.specs.Hunting.{answerOf}
 use Rattle.search.specs.Finding.{foundBy, FindsIn, fits, unfits}
 use Rattle.search.specs.declared.Kind.{Kind}
@@ -46,15 +45,12 @@ use Rattle.finder.specs.declared.Outcome.the-variants as O
 use Rattle.finder.specs.declared.Reply.{Reply}
 use Rattle.finder.proofs.Holding.{read-said, read-held, classes-promise, clash-said, clash-high, read-asks, read-asked}
 
-fit-context : (c : ContextColumns) → Held c → FitContext (c .symbols) (c .counts) (c .args) (c .rows) (c .kinds) (c .lefts) (c .rights) (c .statements)
-fit-context c h = record { rows-few = h .fit .rows; statements-few = h .fit .statements; counts-few = h .fit .few; fit = h .fit .fit }
-
 pub hunt-answers : (c : ContextColumns) (t : List ℕ) (k : ClauseColumns) → Asks c k → (r : Searched)
     → FindsIn (c .symbols) (c .counts) (c .args) (c .rows) (c .kinds) (c .lefts) (c .rights) (c .statements) t (k .kinds) (k .heads) (k .counts) (k .args) (k .patterns) (k .signs) (k .lefts)
     (k .rights) (k .literals) r
     → r ≡ answerOf (foundBy (said c) t (asked k))
 hunt-answers c t k h r (fits p q) = refl
-hunt-answers c t k h r (unfits n) = absurd (n (fit-context c (h .held)) (h .clause))
+hunt-answers c t k h r (unfits n) = absurd (n (h .held .fit) (h .clause))
 
 -- ---- the search's answer as a reply
 
@@ -118,7 +114,7 @@ module _ (c : ContextColumns) (k : ClauseColumns) (asks : Asks c k) where
     judge-found e x q y w = rw (w, q) (go (foundBy (said c) t (asked k)) (computed-first (said c) (asked k) (asks .formed) (repAt t) (promise .rows) 65536 few))
       where
         few : length (said c .rows) ≤ 65536
-        few = omega (arith, rows-long c, asks .held .fit .rows)
+        few = omega (arith, rows-long c, asks .held .fit .rows-few)
 
         go : (f : Found) → Answers (said c) (asked k) f → Judges c k (answeredWith (answerOf f .kind) (answerOf f .places))
         go (found a) w =

@@ -18,9 +18,9 @@ use Rattle.meaning.specs.Text.{narrow}
 use Rattle.meaning.specs.Replies as M
 use Rattle.meaning.specs.Replies.{breach, none, refused, placesOf, Judged, Replies}
 use Rattle.meaning.specs.Formed.{Formed}
-use Rattle.closing.specs.Claims.{FitColumns, Closes}
+use Rattle.closing.specs.Claims.{Closes}
 use Rattle.closing.specs.declared.Classes.{Classes}
-use Rattle.columns.specs.Fit.{FitClause}
+use Rattle.columns.specs.Fit.{FitContext, FitClause}
 use Rattle.search.specs.declared.Kind.{Kind}
 use Rattle.search.specs.declared.Kind.the-variants as S
 use Rattle.ledger.specs.declared.ContextColumns.{ContextColumns}
@@ -37,7 +37,7 @@ abbrev pub asked : ClauseColumns → Clause
 asked k = clauseFrom (k .kinds) (k .heads) (k .counts) (k .args) (k .patterns) (k .signs) (k .lefts) (k .rights) (k .literals)
 
 pub record Held (c : ContextColumns) : Type 0 where
-  pub fit : FitColumns (c .symbols) (c .counts) (c .args) (c .rows) (c .kinds) (c .lefts) (c .rights) (c .statements)
+  pub fit : FitContext (c .symbols) (c .counts) (c .args) (c .rows) (c .kinds) (c .lefts) (c .rights) (c .statements)
   pub long : length (c .args) ≡ 1020
 
 -- a closing's answer to the columns

@@ -43,7 +43,7 @@ use Rattle.normaliser.proofs.Fitting.{fit-writable}
 
 pub write-writable : (c : ContextColumns) (t : List ℕ) → Represented c t → Writable (c .counts) (c .args) (c .rows) (c .lefts) (c .rights) (c .statements) t
 write-writable c t h =
-    fit-writable (c .symbols) (c .counts) (c .args) (c .rows) (c .kinds) (c .lefts) (c .rights) (c .statements) t (h .promise) (h .held .fit .rows) (h .held .fit .statements) (h .held .long) (h .held .fit .few) (h .held .fit .fit)
+    fit-writable (c .symbols) (c .counts) (c .args) (c .rows) (c .kinds) (c .lefts) (c .rights) (c .statements) t (h .promise) (h .held .fit .rows-few) (h .held .fit .statements-few) (h .held .long) (h .held .fit .counts-few) (h .held .fit .fit)
 
 pub write-leaves : (c : ContextColumns) (t lent after : List ℕ) (r : Wrote′)
     → Leaves lent (normal (normalText (c .symbols) (c .counts) (c .args) (c .rows) (c .kinds) (c .lefts) (c .rights) (c .statements) t)) (writtenOf r) after
