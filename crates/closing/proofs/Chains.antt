@@ -26,7 +26,7 @@ use Rattle.meaning.proofs.Lists.{sameList-true, sameList-self}
 use Rattle.meaning.proofs.Closing.{agree, unite}
 use Rattle.meaning.proofs.Closes.{agree-equal}
 use Rattle.closing.specs.Steps.{Laid, keyOf, Last, Nexts, Mate, uniteAt, Joined, Kept, Outcome, Alike, Passed}
-use Rattle.closing.proofs.Rows.{length-rows}
+use Rattle.closing.proofs.Rows.{length-rows, mix-below}
 use Rattle.closing.proofs.Merges.{outcome-none, outcome-then, unite-outcome}
 
 -- ---- rows that agree
@@ -51,7 +51,7 @@ same-key rows l i j s = rw (s .0, s .1)
 
 key-below : (rows : List Row) (l : List ℕ) (i : ℕ) → keyOf rows l i < 256
 unfolding keyOf
-key-below rows l i = omega arith
+key-below rows l i = mix-below _ (map (repAt l) (rowAt rows i .args)) (omega arith)
 
 -- ---- the search along a chain
 

@@ -1,16 +1,16 @@
 -- Rows read from columns: two rows compared, and the key of a row's chain.
 --     length-rows, row-in   the rows of columns, one by one
---     mine                  what `same_args`, `agree` and `chain` leave to show
+--     mine                  what `same_args`, `agree`, `mixed` and `chain` leave to show
 -- Assumes nothing.
 use mathlib.Core.Bool.{Bool, true, false, _&&_}
-use mathlib.Core.List.{List}
+use mathlib.Core.List.{List, [], _∷_, _++_}
 use mathlib.Core.Path.{_≡_, refl, ap, ap₂, sym, _∙_, subst}
 use Prim.Native.Nat.{ℕ, zero, suc, _+_, _-_, _*_, _%_, _≤_, _<_}
 use native.Mathlib.Numerals.{add-one}
 use native.Mathlib.Omega.{arith}
 use lib.Dec.{eqb}
 use lib.ListN.{length, getD, take, drop, length-take, length-drop, length-map, drop-of-length-le}
-use lib.Seq.{drop-cons, getD-take, getD-drop}
+use lib.Seq.{drop-cons, getD-take, getD-drop, take-suc, take-length}
 use borrow.Author.Needs.{needs}
 use borrow.Author.Tests.{eq-eqb, ne-eqb}
 use Rattle.meaning.specs.Context.{row₀, rowAt}
@@ -20,7 +20,7 @@ use Rattle.meaning.specs.Columns.{rowsFrom, rowFrom}
 use Rattle.meaning.proofs.Lists.{length-snoc, snoc-at, sameList-true}
 use Rattle.meaning.proofs.Closing.{agree}
 use Rattle.meaning.proofs.Closes.{repAt-map}
-use Rattle.closing.specs.Steps.{Laid, Comparable, argReps, sameArgs, keyOf}
+use Rattle.closing.specs.Steps.{Laid, Comparable, Seated, argReps, sameArgs, mix, keyOf}
 
 pub length-rows : (symbols counts args : List ℕ) (n : ℕ) → length (rowsFrom symbols counts args n) ≡ n
 unfolding rowsFrom
@@ -170,21 +170,59 @@ pub arg-class : (args t : List ℕ) (at x r : ℕ) → x ≡ getD args at 0 → 
 arg-class args t at x r e q = q ∙ ap (repAt t) e
 
 -- ---- the key of a row's chain
-module _ (symbols counts args t : List ℕ) (n i x : ℕ) (hi : i < n) (ex : x ≡ getD symbols i 0) where
-  pub key-constant : getD counts i 0 ≡ 0 → (x * 37) % 256 ≡ keyOf (rowsFrom symbols counts args n) t i
-  unfolding keyOf
-  key-constant e =
-      let z : x * 37 ≡ x * 37 + 0 = omega arith in
-      rw (row-in symbols counts args n i hi, e, ← ex) (ap (λ (s : ℕ). s % 256) z)
 
-  pub key-first : (y z : ℕ) → Laid counts args n → (getD counts i 0 ≡ 0 → ⊥) → y ≡ repAt t (getD args (i * 4) 0) → z ≡ y
-      → (x * 37 + z) % 256 ≡ keyOf (rowsFrom symbols counts args n) t i
+mix-snoc : (s : ℕ) (l : List ℕ) (a : ℕ) → mix s (l ++ (a ∷ [])) ≡ (mix s l * 31 + a) % 256
+unfolding mix
+mix-snoc s [] a = refl
+mix-snoc s (x ∷ l) a = mix-snoc ((s * 31 + x) % 256) l a
+
+pub mix-below : (s : ℕ) (l : List ℕ) → s < 256 → mix s l < 256
+unfolding mix
+mix-below s [] h = h
+mix-below s (x ∷ l) h = mix-below ((s * 31 + x) % 256) l (omega arith)
+
+-- the first k arguments are mixed in
+pub record Mixing (args t : List ℕ) (i count s key k : ℕ) : Type 0 where
+  pub asks : Seated args i count
+  pub so : key ≡ mix s (take k (argReps args t i count))
+  pub small : key < 256
+  pub reach : k ≤ count
+
+pub mixing-start : (args t : List ℕ) (i count s : ℕ) → Seated args i count → s < 256 → Mixing args t i count s s 0
+unfolding mix
+mixing-start args t i count s asks h = record { asks = asks; so = refl; small = h; reach = omega arith }
+
+module _ {args t : List ℕ} {i count s key k : ℕ} (m : Mixing args t i count s key k) where
+  long-mixing : length (argReps args t i count) ≡ count
+  long-mixing = length-reps args t i count (m .asks .long) (m .asks .four)
+
+  pub mixing-next : {a b : ℕ} → k < count → a ≡ repAt t (getD args (i * 4 + k) 0) → b ≡ a → Mixing args t i count s ((key * 31 + b) % 256) (k + 1)
+  mixing-next {a} {b} h ea eb =
+      record {
+        asks = m .asks;
+        so = rw (add-one, take-suc (argReps args t i count) k 0 inside, mix-snoc s (take k (argReps args t i count)) (getD (argReps args t i count) k 0), at, ← m .so);
+        small = omega arith;
+        reach = omega arith;
+      }
+    where
+      inside : k < length (argReps args t i count)
+      inside = omega (arith, long-mixing)
+
+      at : getD (argReps args t i count) k 0 ≡ b
+      at = reps-at args t i count (m .asks .long) (m .asks .four) k h ∙ sym ea ∙ sym eb
+
+  pub mixing-done : count ≤ k → key ≡ mix s (argReps args t i count)
+  mixing-done h =
+      let e : k ≡ length (argReps args t i count) = omega (arith, long-mixing, m .reach) in
+      m .so ∙ ap (λ (n : ℕ). mix s (take n (argReps args t i count))) e ∙ rw (take-length (argReps args t i count))
+
+module _ (symbols counts args t : List ℕ) (n i x c : ℕ) (hi : i < n) (ex : x ≡ getD symbols i 0) (ec : c ≡ getD counts i 0) where
+  pub key-seated : Laid counts args n → Seated args i c
+  key-seated laid = record { inside = omega (arith, laid .room); long = omega (arith, laid .long); four = omega (arith, laid .few i hi) }
+
+  pub key-of : (r : ℕ) → r ≡ mix ((x * 37) % 256) (argReps args t i c) → r ≡ keyOf (rowsFrom symbols counts args n) t i
   unfolding keyOf
-  key-first y z laid d ey ez =
-      let f : i * 4 + 0 ≡ i * 4 = omega arith in
-      let e : getD (argReps args t i (getD counts i 0)) 0 0 ≡ z =
-      reps-at args t i (getD counts i 0) (omega (arith, laid .long)) (laid .few i hi) 0 (omega arith) ∙ ap (λ (k : ℕ). repAt t (getD args k 0)) f ∙ sym ey ∙ sym ez in
-      rw (row-in symbols counts args n i hi, e, ← ex)
+  key-of r e = e ∙ rw (row-in symbols counts args n i hi, ← ex, ← ec)
 
 pub ruleset mine = (
   needs,
@@ -197,6 +235,9 @@ pub ruleset mine = (
   agree-args,
   agree-comparable,
   arg-class,
-  key-constant,
-  key-first,
+  mixing-start,
+  mixing-next,
+  mixing-done,
+  key-seated,
+  key-of,
 )

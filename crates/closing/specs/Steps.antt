@@ -1,12 +1,13 @@
 -- What the inner functions of the closing ask and answer; no contract of a public function cites it.
---     Laid, Comparable, sameArgs      two rows compared
+--     Laid, Comparable, Seated        rows that have their places
+--     argReps, sameArgs               two rows compared
 --     stateStep                       one statement of a pass over the statements
---     keyOf, Last, Mate, Joined       chains of rows, and the search along one
+--     mix, keyOf, Last, Mate, Joined  chains of rows, and the search along one
 --     Kept, Grown, Outcome, Passed    the table between passes, and what a pass does to it
 --     Read .. apartAt                 one statement, as `clash` and `apart` read it
 -- Assumes nothing.
 use mathlib.Core.Bool.{Bool, true, false, not, _&&_, _||_}
-use mathlib.Core.List.{List, map}
+use mathlib.Core.List.{List, [], _∷_, map}
 use mathlib.Core.Path.{_≡_}
 use mathlib.Core.Logic.{_⊎_}
 use Prim.Native.Nat.{ℕ, zero, suc, _+_, _*_, _%_, _≤_, _<_}
@@ -33,6 +34,12 @@ pub record Comparable (args : List ℕ) (i j count : ℕ) : Type 0 where
   pub second-long : j * 4 + 4 ≤ length args
   pub four : count ≤ 4
 
+-- row i has places for its arguments, and count is no more than there are
+pub record Seated (args : List ℕ) (i count : ℕ) : Type 0 where
+  pub inside : i < 255
+  pub long : i * 4 + 4 ≤ length args
+  pub four : count ≤ 4
+
 -- the representatives of the first count arguments of row i
 abbrev pub argReps : List ℕ → List ℕ → ℕ → ℕ → List ℕ
 argReps args t i count = map (repAt t) (take count (drop (i * 4) args))
@@ -47,9 +54,14 @@ stateStep kinds lefts rights k l = elim (eqb (getD kinds k 0) 2) [ true ↦ unit
 
 -- ---- chains
 
+-- a key with the elements of a list mixed in
+unfoldable pub mix : ℕ → List ℕ → ℕ
+mix s [] = s
+mix s (a ∷ l) = mix ((s * 31 + a) % 256) l
+
 -- rows that agree have one key, of 256
 unfoldable pub keyOf : List Row → List ℕ → ℕ → ℕ
-keyOf rows l i = (rowAt rows i .symbol * 37 + getD (map (repAt l) (rowAt rows i .args)) 0 0) % 256
+keyOf rows l i = mix ((rowAt rows i .symbol * 37) % 256) (map (repAt l) (rowAt rows i .args))
 
 -- the last of the first n rows with the key b, as one more than its number, or 0 where there is none
 pub record Last (key : ℕ → ℕ) (n b at : ℕ) : Type 0 where

@@ -9,7 +9,7 @@ ghost use lib.ListN.{getD, replicate};
 ghost use Rattle.meaning.specs.Equality.{repAt};
 ghost use Rattle.meaning.specs.Columns.{rowsFrom};
 ghost use Rattle.meaning.proofs.Closing.{agree as agreed};
-ghost use Rattle.closing.specs.Steps.{Laid, Comparable, sameArgs, keyOf, Mate, Joined, Passed};
+ghost use Rattle.closing.specs.Steps.{Laid, Comparable, Seated, argReps, sameArgs, mix, keyOf, Mate, Joined, Passed};
 
 // The representative of the row that stands at a place of the arguments.
 fn arg_class<'a>(args: &'a [u16; 1020], table: &'a [u16; 255], at: usize) -> u16
@@ -65,7 +65,28 @@ fn agree<'a>(
     same_args(args, table, i, j, wide8(counts[i]))
 }
 
-// The chain of row i: rows with one symbol, and one representative of the first argument, have one chain.
+// The key s with the representatives of the first count arguments of row i mixed in.
+fn mixed<'a>(
+    args: &'a [u16; 1020],
+    table: &'a [u16; 255],
+    i: usize,
+    count: usize,
+    s: usize,
+) -> usize
+    requires { ⌜ Seated (now args) i count ⌝ }
+    requires { ⌜ s < 256 ⌝ }
+    ensures { λ r. ⌜ (r ≡ mix s (argReps (now (args .entry)) (now (table .entry)) i count)) × (r < 256) ⌝ }
+{
+    let mut key = s;
+    let mut k: usize = 0;
+    while k < count {
+        key = (key * 31 + wide(arg_class(args, table, i * 4 + k))) % 256;
+        k += 1;
+    }
+    key
+}
+
+// The chain of row i: rows with one symbol, and arguments with the same representatives, have one chain.
 fn chain<'a>(
     symbols: &'a [u16; 255],
     counts: &'a [u8; 255],
@@ -78,11 +99,13 @@ fn chain<'a>(
     requires { ⌜ i < rows ⌝ }
     ensures { λ r. ⌜ (r ≡ keyOf (rowsFrom (now (symbols .entry)) (now (counts .entry)) (now (args .entry)) rows) (now (table .entry)) i) × (r < 256) ⌝ }
 {
-    let s = wide(symbols[i]) * 37;
-    if counts[i] == 0 {
-        return s % 256;
-    }
-    (s + wide(arg_class(args, table, i * 4))) % 256
+    mixed(
+        args,
+        table,
+        i,
+        wide8(counts[i]),
+        (wide(symbols[i]) * 37) % 256,
+    )
 }
 
 // The first row that agrees with row i on the way along its chain, as one more than its number, or 0 where there is none.
