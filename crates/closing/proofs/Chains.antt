@@ -31,10 +31,10 @@ use Rattle.closing.proofs.Merges.{outcome-none, outcome-then, unite-out
 
 -- ---- rows that agree
 
-abbrev SameAt : List Row → List ℕ → ℕ → ℕ → Type 0
+abbrev pub SameAt : List Row → List ℕ → ℕ → ℕ → Type 0
 SameAt rows l i j = (rowAt rows i .symbol ≡ rowAt rows j .symbol) × (map (repAt l) (rowAt rows i .args) ≡ map (repAt l) (rowAt rows j .args))
 
-agree-true : (rows : List Row) (l : List ℕ) (i j : ℕ) → agree rows l i j ≡ true → SameAt rows l i j
+pub agree-true : (rows : List Row) (l : List ℕ) (i j : ℕ) → agree rows l i j ≡ true → SameAt rows l i j
 unfolding agree
 agree-true rows l i j e =
     let a : Bool = eqb (rowAt rows i .symbol) (rowAt rows j .symbol) in

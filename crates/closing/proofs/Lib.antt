@@ -5,6 +5,7 @@ mod Chains
 mod Clashes
 mod Columns
 mod Merges
+mod Nearing
 mod Pairs
 mod Rounds
 mod Rows

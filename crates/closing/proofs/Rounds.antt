@@ -20,7 +20,7 @@ use Rattle.meaning.proofs.Progress.{total}
 use Rattle.meaning.proofs.Closing.{unite, upto, count}
 use Rattle.meaning.proofs.Promised.{closed-representatives}
 use Rattle.columns.specs.Fit.{FitContext}
-use Rattle.closing.specs.Steps.{Laid, stateStep, Kept, Grown, Outcome, Alike, Passed}
+use Rattle.closing.specs.Steps.{Laid, stateStep, Kept, Grown, Outcome, Alike, Passed, Nearer}
 use Rattle.closing.proofs.Rows.{length-rows}
 use Rattle.closing.proofs.Merges.{kept-start, unite-outcome, unite-joins}
 use Rattle.closing.proofs.Pairs.{pairAt, pairsFrom, isEquation, equations-are, pairs-place, pairs-from}
@@ -179,10 +179,6 @@ module _ {symbols counts args : List ℕ} {n : ℕ} {kinds lefts rights : List �
   sums : (x : List ℕ) → total (length R′) (repAt x) ≡ total n (repAt x)
   sums x = ap (λ (k : ℕ). total k (repAt x)) (length-rows symbols counts args n)
 
-  pub rounding-less : (fresh ≡ old → ⊥) → fresh < old
-  rounding-less d =
-      ⊎-elim (λ w. absurd (d (es ∙ ap (λ (x : List ℕ). total n (repAt x)) (w .0) ∙ sym (r .so)))) (λ w. omega (arith, w, sums l, sums u, r .so)) (outcome .did)
-
   pub rounding-next : Rounding symbols counts args n kinds lefts rights m u fresh
   rounding-next = record { fit = r .fit; laid = r .laid; kept = outcome .kept; met = met-on; so = es }
 
@@ -192,4 +188,27 @@ module _ {symbols counts args : List ℕ} {n : ℕ} {kinds lefts rights : List �
       met-promise (contextFrom symbols counts args n kinds lefts rights m) (r .fit .fit) u (outcome .kept) met-on
       (⊎-elim (λ w. subst (Alike R′ (length R′)) (sym (w .0)) (w .1)) (λ w. absurd (omega (arith, w, sums l, sums u, r .so))) (outcome .did))
 
-pub ruleset mine = (needs, rounding-start, rounding-less, rounding-next, rounding-ends)
+  -- a pass that changed something, and the merges that follow
+  module _ {v : List ℕ} {last : ℕ} (nearer : Nearer R′ u v) (el : last ≡ total n (repAt v)) where
+    then : Outcome R′ E′ (Unit {0}) u v
+    unfolding contextFrom
+    then = nearer .outcome E′ (r .fit .fit .ordered) (outcome .kept)
+
+    falls : total n (repAt v) ≤ total n (repAt u)
+    falls = ⊎-elim (λ w. let e : total n (repAt v) ≡ total n (repAt u) = ap (λ (x : List ℕ). total n (repAt x)) (w .0) in omega arith) (λ w. omega (arith, w, sums u, sums v)) (then .did)
+
+    pub rounding-less : (fresh ≡ old → ⊥) → last < old
+    rounding-less d =
+        ⊎-elim (λ w. absurd (d (es ∙ ap (λ (x : List ℕ). total n (repAt x)) (w .0) ∙ sym (r .so)))) (λ w. omega (arith, w, sums l, sums u, r .so, falls)) (outcome .did)
+
+    pub rounding-again : Rounding symbols counts args n kinds lefts rights m v last
+    rounding-again =
+        record { fit = r .fit; laid = r .laid; kept = then .kept; met = met-after; so = el }
+      where
+        met-after : Met E′ v
+        met-after p h =
+            let w : (leftAt E′ p < length R′) × (rightAt E′ p < length R′) = sides symbols counts args n kinds lefts rights m (r .fit) p h in
+            let long : length R′ ≤ 255 = omega (arith, length-rows symbols counts args n, r .fit .rows-few) in
+            then .grown (leftAt E′ p) (rightAt E′ p) (omega (arith, w .0)) (omega (arith, w .1)) (met-on p h)
+
+pub ruleset mine = (needs, rounding-start, rounding-less, rounding-next, rounding-again, rounding-ends)

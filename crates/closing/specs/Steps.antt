@@ -4,6 +4,7 @@
 --     stateStep                       one statement of a pass over the statements
 --     mix, keyOf, Last, Mate, Joined  chains of rows, and the search along one
 --     Kept, Grown, Outcome, Passed    the table between passes, and what a pass does to it
+--     Found, Nearer                   merges that follow a merge
 --     Read .. apartAt                 one statement, as `clash` and `apart` read it
 -- Assumes nothing.
 use mathlib.Core.Bool.{Bool, true, false, not, _&&_, _||_}
@@ -115,6 +116,17 @@ Alike rows n l =
 
 pub record Passed (rows : List Row) (l m : List ℕ) : Type 0 where
   pub outcome : (eqs : List (ℕ × ℕ)) → Ordered rows → Kept rows eqs l → Outcome rows eqs (Alike rows (length rows) l) l m
+
+-- ---- merges that follow a merge
+
+-- an earlier or later row, as one more than its number, that agrees with row i, or 0
+pub record Found (rows : List Row) (l : List ℕ) (n i at : ℕ) : Type 0 where
+  pub bound : at ≤ n
+  pub agrees : (p : ℕ) → at ≡ suc p → agree rows l i p ≡ true
+
+-- from l to m: what holds of the table goes on to hold, and the sum does not rise
+pub record Nearer (rows : List Row) (l m : List ℕ) : Type 0 where
+  pub outcome : (eqs : List (ℕ × ℕ)) → Ordered rows → Kept rows eqs l → Outcome rows eqs (Unit {0}) l m
 
 -- ---- stated differences, by a table
 

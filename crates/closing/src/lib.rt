@@ -4,6 +4,7 @@
 mod mates;
 mod statements;
 mod table;
+mod wake;
 
 use columns::fit_context;
 use mates::join_rows;
@@ -13,6 +14,7 @@ use statements::difference_at;
 use statements::join_stated;
 use table::own;
 use table::sum;
+use wake::follow;
 ghost use mathlib.Core.Path.{_≡_};
 ghost use Prim.Native.Nat.{_*_, _≤_};
 ghost use lib.ListN.{length};
@@ -40,7 +42,8 @@ pub enum Contradiction {
 }
 
 // The stated equations, and then passes over the rows till the sum of the representatives stays. Rows that have one representative keep it
-// in common, so the equations are joined once.
+// in common, so the equations are joined once. Most ledgers are done after a pass or two; where they are not, each further pass comes after
+// one that follows up its merges.
 fn settle<'a>(
     symbols: &'a [u16; 255],
     counts: &'a [u8; 255],
@@ -58,14 +61,20 @@ fn settle<'a>(
     ensures { λ _. ⌜ Promise (contextFrom (now (symbols .entry)) (now (counts .entry)) (now (args .entry)) rows (now (kinds .entry)) (now (lefts .entry)) (now (rights .entry)) statements) 255 (now (table .exit)) ⌝ }
 {
     join_stated(kinds, lefts, rights, statements, table);
+    let start = sum(table, rows);
+    join_rows(symbols, counts, args, rows, table);
     let mut old = sum(table, rows);
+    if old == start {
+        return;
+    }
     loop {
         join_rows(symbols, counts, args, rows, table);
         let fresh = sum(table, rows);
         if fresh == old {
             return;
         }
-        old = fresh;
+        follow(symbols, counts, args, rows, table);
+        old = sum(table, rows);
     }
 }
 

@@ -12,7 +12,7 @@ ghost use Rattle.meaning.proofs.Closing.{agree as agreed};
 ghost use Rattle.closing.specs.Steps.{Laid, Comparable, Seated, argReps, sameArgs, mix, keyOf, Mate, Joined, Passed};
 
 // The representative of the row that stands at a place of the arguments.
-fn arg_class<'a>(args: &'a [u16; 1020], table: &'a [u16; 255], at: usize) -> u16
+pub fn arg_class<'a>(args: &'a [u16; 1020], table: &'a [u16; 255], at: usize) -> u16
     requires { ⌜ at < 1020 ⌝ }
     ensures { λ r. ⌜ r ≡ repAt (now (table .entry)) (getD (now (args .entry)) at 0) ⌝ }
 {
@@ -42,7 +42,7 @@ fn same_args<'a>(
 }
 
 // Whether rows i and j have one symbol, and arguments with the same representatives.
-fn agree<'a>(
+pub fn agree<'a>(
     symbols: &'a [u16; 255],
     counts: &'a [u8; 255],
     args: &'a [u16; 1020],
@@ -87,7 +87,7 @@ fn mixed<'a>(
 }
 
 // The chain of row i: rows with one symbol, and arguments with the same representatives, have one chain.
-fn chain<'a>(
+pub fn chain<'a>(
     symbols: &'a [u16; 255],
     counts: &'a [u8; 255],
     args: &'a [u16; 1020],
@@ -159,13 +159,13 @@ fn join_row<'a>(
     }
 }
 
-fn no_heads() -> [u16; 256]
+pub fn no_heads() -> [u16; 256]
     ensures { λ r. ⌜ r ≡ replicate 256 0 ⌝ }
 {
     [0; 256]
 }
 
-fn no_next() -> [u16; 255]
+pub fn no_next() -> [u16; 255]
     ensures { λ r. ⌜ r ≡ replicate 255 0 ⌝ }
 {
     [0; 255]
