@@ -1,5 +1,7 @@
 -- The search of the code gives what the plain search gives, whatever the table is.
 --     order-front      the rows of the levels below k come first in the order
+--     hunt-search      the search over boxes, by a pruning that gives each variable its rows
+--     free-narrows     of a variable that is marked the first row
 --     hunt-first-by    the first breach
 -- Assumes nothing.
 use mathlib.Core.Bool.{Bool, true, false, not, _&&_, _||_}
@@ -9,6 +11,7 @@ use mathlib.Core.Logic.{inl, inr}
 use Prim.Native.Nat.{ℕ, zero, suc, _+_, _-_, _≤_, _<_, max}
 use native.Mathlib.Omega.{arith}
 use native.Mathlib.Decide.{ℕ-discrete}
+use native.Mathlib.Nat.{sub-zero}
 use lib.Dec.{eqb}
 use lib.ListN.{length, getD, set, take, drop, replicate, length-set, length-append, length-take, length-replicate, List·getD-append}
 use lib.Seq.{getD-set-same, getD-set-other, take-at, drop-at, set-at, take-take, take-length, take-append-le, slice}
@@ -18,18 +21,19 @@ use Rattle.meaning.specs.Formed.{leftOf, rightOf, AllPlaced}
 use Rattle.meaning.specs.ByTable.{sameList}
 use Rattle.meaning.specs.Values.{levels, rowsAt, patternAt, numberAt, argsOf, Numbering, held, isOver, met, numberOf, step, number, stages}
 use Rattle.meaning.specs.FirstBy.{holdsBy, lowest, orElse, tryAll, firstBy}
+use Rattle.meaning.proofs.Logic.{false-true}
 use Rattle.meaning.proofs.Box.{Box, Mem}
 use Rattle.meaning.proofs.Levels.{level-variable, rows-at, number-done}
-use Rattle.meaning.proofs.Search.{tryBox, search, Prunes}
-use Rattle.meaning.proofs.Order.{keeps-covers}
+use Rattle.meaning.proofs.Search.{tryBox, search}
+use Rattle.meaning.proofs.Narrow.{takeFirst, free-prunes}
 use Rattle.meaning.proofs.Prefix.{stages-next}
-use Rattle.meaning.proofs.Pruned.{fails, Sought}
+use Rattle.meaning.proofs.Pruned.{fails, startBox, Sought}
 use Rattle.meaning.proofs.Due.{due, deadNow, due-first}
 use Rattle.search.specs.Reading.{readOf}
 use Rattle.search.specs.Planning.{upTo, Arranged}
-use Rattle.search.specs.Hunting.{stageOf, deadOf, tryEach, enterOf, attemptOf, huntOf}
+use Rattle.search.specs.Hunting.{stageOf, deadOf, tryEach, enterOf, attemptOf, huntOf, enterFrom, startOf, aloneOf, rowsOf}
 
-abbrev Alike : List ℕ → List ℕ → Type 0
+abbrev pub Alike : List ℕ → List ℕ → Type 0
 Alike v w = (p : ℕ) → getD v p 0 ≡ getD w p 0
 
 -- ---- tests
@@ -151,6 +155,15 @@ module _ {ls order ends : List ℕ} (r : Arranged ls order ends) where
 
 -- ---- the search
 
+pub zero-at : (n p : ℕ) → getD {A = ℕ} (replicate n 0) p 0 ≡ 0
+zero-at zero p = refl
+zero-at (suc n) zero = refl
+zero-at (suc n) (suc p) = zero-at n p
+
+-- with so many variables, the pruning gives the next one its rows and leaves the others all
+abbrev pub Narrows : List ℕ → ℕ → (List ℕ → Box → Box) → (ℕ → List ℕ → List ℕ) → Type 0
+Narrows low total narrow rowsFor = (n k : ℕ) (a rest : List ℕ) → length a ≡ k → k + suc n ≡ total → narrow a (replicate (suc n) low) ≡ rowsFor k (a ++ rest) ∷ replicate n low
+
 module _ (rows : List Row) (rep : ℕ → ℕ) (ps : List Pattern) (placed : AllPlaced 0 ps) (few : length ps ≤ 64)
     (ls order ends : List ℕ) (same : Alike ls (levels ps)) (order-is : Arranged (levels ps) order ends)
     (differs : ℕ → ℕ → Bool) (lits : List Literal) where
@@ -169,9 +182,6 @@ module _ (rows : List Row) (rep : ℕ → ℕ) (ps : List Pattern) (placed : All
   abbrev low : List ℕ
   low = lowest rep 0 (length rows)
 
-  abbrev plain : List ℕ → Box → Box
-  plain chosen box = box
-
   -- the values of level k under an assignment of k places, with any places after them
   agree : (k : ℕ) (a rest : List ℕ) → length a ≡ k → Agree rows rep ps (a ++ rest) a (rowsAt k 0 (levels ps))
   agree k a rest h r m = (
@@ -186,11 +196,6 @@ module _ (rows : List Row) (rep : ℕ → ℕ) (ps : List Pattern) (placed : All
 
   stage-long : (k : ℕ) (c v : List ℕ) → k < 5 → length (st k c v) ≡ length v
   stage-long k c v h = ap length (stage-is k c v h) ∙ number-long rows rep ps c (record { numbers = v; done = upTo (levels ps) k }) (rowsAt k 0 (levels ps))
-
-  zero-at : (n p : ℕ) → getD {A = ℕ} (replicate n 0) p 0 ≡ 0
-  zero-at zero p = refl
-  zero-at (suc n) zero = refl
-  zero-at (suc n) (suc p) = zero-at n p
 
   stage-first : Alike (st 0 (replicate 4 255) (replicate 64 0)) (stages rows rep 65536 ps [] 0 .numbers)
   unfolding stages upTo
@@ -222,50 +227,91 @@ module _ (rows : List Row) (rep : ℕ → ℕ) (ps : List Pattern) (placed : All
   try-same next f a [] g = refl
   try-same next f a (x ∷ l) g = ap₂ orElse (g x) (try-same next f a l g)
 
-  search-dead : (n : ℕ) (a : List ℕ) (box : Box) → now a ≡ true → search now plain n a box ≡ nothing
-  unfolding search
-  search-dead zero a box e = rw (e, search)
-  search-dead (suc n) a box e = rw (e, search)
+  module _ (narrow : List ℕ → Box → Box) (rowsFor : ℕ → List ℕ → List ℕ) (narrows : Narrows low (variables ps) narrow rowsFor) where
+    search-dead : (n : ℕ) (a : List ℕ) (box : Box) → now a ≡ true → search now narrow n a box ≡ nothing
+    unfolding search
+    search-dead zero a box e = rw (e, search)
+    search-dead (suc n) a box e = rw (e, search)
 
-  enter-same : (n j : ℕ) (a rest v : List ℕ) → length a ≡ j → Alike (st j (a ++ rest) v) (stages rows rep 65536 ps a j .numbers)
-      → (now a ≡ false → search now plain n a (replicate n low) ≡ huntOf st de low n j (a ++ rest) (st j (a ++ rest) v))
-      → search now plain n a (replicate n low) ≡ enterOf st de (huntOf st de low n j) j (a ++ rest) v
-  unfolding enterOf
-  enter-same n j a rest v l f ih = go (now a) refl
+    enter-same : (n j : ℕ) (a rest v : List ℕ) → length a ≡ j → Alike (st j (a ++ rest) v) (stages rows rep 65536 ps a j .numbers)
+        → (now a ≡ false → search now narrow n a (replicate n low) ≡ huntOf st de rowsFor n j (a ++ rest) (st j (a ++ rest) v))
+        → search now narrow n a (replicate n low) ≡ enterOf st de (huntOf st de rowsFor n j) j (a ++ rest) v
+    unfolding enterOf
+    enter-same n j a rest v l f ih = go (now a) refl
+      where
+        go : (b : Bool) → now a ≡ b → search now narrow n a (replicate n low) ≡ enterOf st de (huntOf st de rowsFor n j) j (a ++ rest) v
+        go true e = rw (dead-same j a (st j (a ++ rest) v) l f ∙ e, enterOf) (search-dead n a (replicate n low) e)
+        go false e = rw (dead-same j a (st j (a ++ rest) v) l f ∙ e, enterOf) (ih e)
+
+    search-next : (n k : ℕ) (a rest : List ℕ) → length a ≡ k → k + suc n ≡ variables ps → now a ≡ false
+        → search now narrow (suc n) a (replicate (suc n) low) ≡ tryAll (λ c. search now narrow n c (replicate n low)) a (rowsFor k (a ++ rest))
+    unfolding search tryBox
+    search-next n k a rest l t d = rw (d, search) (ap (tryBox (search now narrow n) a) (narrows n k a rest l t))
+
+    -- where the choice so far is not dead
+    hunt-same : (n k : ℕ) (a rest v : List ℕ) → k + n ≤ 4 → k + n ≡ variables ps → length a ≡ k → length rest ≡ 4 - k → length v ≡ 64 → Alike v (stages rows rep 65536 ps a k .numbers)
+        → now a ≡ false → search now narrow n a (replicate n low) ≡ huntOf st de rowsFor n k (a ++ rest) v
+    unfolding search huntOf attemptOf
+    hunt-same zero k a rest v h t l lr lv f d = rw (d, search) (ap found (sym (take-at a rest k l)))
+    hunt-same (suc n) k a [] v h t l lr lv f d = absurd (omega arith)
+    hunt-same (suc n) k a (y ∷ rest) v h t l lr lv f d =
+        search-next n k a (y ∷ rest) l t d
+        ∙ try-same (λ c. search now narrow n c (replicate n low)) (attemptOf st de (huntOf st de rowsFor n (suc k)) k (a ++ (y ∷ rest)) v) a (rowsFor k (a ++ (y ∷ rest)))
+        (one (λ x. hunt-same n (suc k) (a ++ (x ∷ [])) rest (st (suc k) ((a ++ (x ∷ [])) ++ rest) v) (omega arith) (omega arith) (long x) (omega arith)
+        (stage-long (suc k) ((a ++ (x ∷ [])) ++ rest) v (omega arith) ∙ lv) (stage-more k a rest x v (omega arith) l lv f)))
+      where
+        long : (x : ℕ) → length (a ++ (x ∷ [])) ≡ suc k
+        long x = omega (arith, length-append a (x ∷ []))
+
+        one : ((x : ℕ) → now (a ++ (x ∷ [])) ≡ false
+            → search now narrow n (a ++ (x ∷ [])) (replicate n low) ≡ huntOf st de rowsFor n (suc k) ((a ++ (x ∷ [])) ++ rest) (st (suc k) ((a ++ (x ∷ [])) ++ rest) v))
+            → (x : ℕ) → search now narrow n (a ++ (x ∷ [])) (replicate n low) ≡ attemptOf st de (huntOf st de rowsFor n (suc k)) k (a ++ (y ∷ rest)) v x
+        one ih x =
+            enter-same n (suc k) (a ++ (x ∷ [])) rest v (long x) (stage-more k a rest x v (omega arith) l lv f) (ih x)
+            ∙ ap (λ (c : List ℕ). enterOf st de (huntOf st de rowsFor n (suc k)) (suc k) c v) (append-assoc a (x ∷ []) rest ∙ sym (set-at a y rest x k l))
+
+    pub hunt-search : variables ps ≤ 4
+        → enterFrom st de rowsFor (variables ps) 0 (replicate 4 255) (replicate 64 0) ≡ search now narrow (variables ps) [] (startBox rows rep clause)
+    unfolding enterFrom
+    hunt-search h =
+        sym (enter-same (variables ps) 0 [] (replicate 4 255) (replicate 64 0) refl stage-first
+        (λ q. hunt-same (variables ps) 0 [] (replicate 4 255) (st 0 (replicate 4 255) (replicate 64 0)) (omega arith) (omega arith) refl refl
+        (stage-long 0 (replicate 4 255) (replicate 64 0) (omega arith) ∙ refl) stage-first q))
+
+  -- ---- the first breach
+
+  start-zero : (k : ℕ) (c : List ℕ) → startOf (replicate 4 0) k c ≡ 0
+  unfolding startOf
+  start-zero k c = go (sameList (take k c) (take k (replicate 4 0))) refl
     where
-      go : (b : Bool) → now a ≡ b → search now plain n a (replicate n low) ≡ enterOf st de (huntOf st de low n j) j (a ++ rest) v
-      go true e = rw (dead-same j a (st j (a ++ rest) v) l f ∙ e, enterOf) (search-dead n a (replicate n low) e)
-      go false e = rw (dead-same j a (st j (a ++ rest) v) l f ∙ e, enterOf) (ih e)
+      go : (b : Bool) → sameList (take k c) (take k (replicate 4 0)) ≡ b → startOf (replicate 4 0) k c ≡ 0
+      go true e = rw (e, startOf) (zero-at 4 k)
+      go false e = rw (e, startOf) refl
 
-  -- where the choice so far is not dead
-  hunt-same : (n k : ℕ) (a rest v : List ℕ) → k + n ≤ 4 → length a ≡ k → length rest ≡ 4 - k → length v ≡ 64 → Alike v (stages rows rep 65536 ps a k .numbers)
-      → now a ≡ false → search now plain n a (replicate n low) ≡ huntOf st de low n k (a ++ rest) v
-  unfolding search tryBox huntOf attemptOf
-  hunt-same zero k a rest v h l lr lv f d = rw (d, search) (ap found (sym (take-at a rest k l)))
-  hunt-same (suc n) k a [] v h l lr lv f d = absurd (omega arith)
-  hunt-same (suc n) k a (y ∷ rest) v h l lr lv f d =
-      rw (d, search)
-      (try-same (λ c. search now plain n c (replicate n low)) (attemptOf st de (huntOf st de low n (suc k)) k (a ++ (y ∷ rest)) v) a low
-      (one (λ x. hunt-same n (suc k) (a ++ (x ∷ [])) rest (st (suc k) ((a ++ (x ∷ [])) ++ rest) v) (omega arith) (long x) (omega arith)
-      (stage-long (suc k) ((a ++ (x ∷ [])) ++ rest) v (omega arith) ∙ lv) (stage-more k a rest x v (omega arith) l lv f))))
-    where
-      long : (x : ℕ) → length (a ++ (x ∷ [])) ≡ suc k
-      long x = omega (arith, length-append a (x ∷ []))
+  -- marks that say which variables take their first row alone
+  module _ (marks : List ℕ) (free : ℕ → Bool) (marked : (k : ℕ) → k < 4 → eqb (getD marks k 0) 1 ≡ free k) (h : variables ps ≤ 4) where
+    free-narrows : Narrows low (variables ps) (takeFirst free) (rowsOf rep (length rows) marks (replicate 4 0))
+    unfolding takeFirst rowsOf aloneOf
+    free-narrows n k a rest l t =
+        go low (free (length a)) refl ∙ ap (λ m. aloneOf (getD marks k 0) (lowest rep 0 m) ∷ replicate n low) (sym (sub-zero (length rows)))
+        ∙ ap (λ s. aloneOf (getD marks k 0) (lowest rep s (length rows - s)) ∷ replicate n low) (sym (start-zero k (a ++ rest)))
+      where
+        m : eqb (getD marks k 0) 1 ≡ free (length a)
+        m = marked k (omega arith) ∙ ap free (sym l)
 
-      one : ((x : ℕ) → now (a ++ (x ∷ [])) ≡ false
-          → search now plain n (a ++ (x ∷ [])) (replicate n low) ≡ huntOf st de low n (suc k) ((a ++ (x ∷ [])) ++ rest) (st (suc k) ((a ++ (x ∷ [])) ++ rest) v))
-          → (x : ℕ) → search now plain n (a ++ (x ∷ [])) (replicate n low) ≡ attemptOf st de (huntOf st de low n (suc k)) k (a ++ (y ∷ rest)) v x
-      one ih x =
-          enter-same n (suc k) (a ++ (x ∷ [])) rest v (long x) (stage-more k a rest x v (omega arith) l lv f) (ih x)
-          ∙ ap (λ (c : List ℕ). enterOf st de (huntOf st de low n (suc k)) (suc k) c v) (append-assoc a (x ∷ []) rest ∙ sym (set-at a y rest x k l))
+        go : (x : List ℕ) (b : Bool) → free (length a) ≡ b → takeFirst free a (x ∷ replicate n low) ≡ aloneOf (getD marks k 0) x ∷ replicate n low
+        go [] true e = rw (m ∙ e, aloneOf) refl
+        go [] false e = rw (m ∙ e, aloneOf) refl
+        go (y ∷ x) true e = rw (m ∙ e, e, aloneOf, takeFirst) refl
+        go (y ∷ x) false e = rw (m ∙ e, e, aloneOf, takeFirst) refl
 
-  plain-prunes : Prunes (Sought differs rows rep 65536 clause) low plain
-  plain-prunes = record { covers = λ chosen box o. keeps-covers (λ a. (λ x. x, λ x. x)); good = λ chosen box g. g; long = λ chosen box. refl }
+    pub hunt-free : enterFrom st de (rowsOf rep (length rows) marks (replicate 4 0)) (variables ps) 0 (replicate 4 255) (replicate 64 0)
+        ≡ search now (takeFirst free) (variables ps) [] (startBox rows rep clause)
+    hunt-free = hunt-search (takeFirst free) (rowsOf rep (length rows) marks (replicate 4 0)) free-narrows h
 
+  -- no variable is marked
   pub hunt-first-by : variables ps ≤ 4
-      → enterOf st de (huntOf st de low (variables ps) 0) 0 (replicate 4 255) (replicate 64 0) ≡ firstBy differs rows rep 65536 clause
+      → enterFrom st de (rowsOf rep (length rows) (replicate 4 0) (replicate 4 0)) (variables ps) 0 (replicate 4 255) (replicate 64 0) ≡ firstBy differs rows rep 65536 clause
   hunt-first-by h =
-      sym (enter-same (variables ps) 0 [] (replicate 4 255) (replicate 64 0) refl stage-first
-      (λ q. hunt-same (variables ps) 0 [] (replicate 4 255) (st 0 (replicate 4 255) (replicate 64 0)) (omega arith) refl refl
-      (stage-long 0 (replicate 4 255) (replicate 64 0) (omega arith) ∙ refl) stage-first q))
-      ∙ due-first differs rows rep 65536 clause plain plain-prunes
+      hunt-free (replicate 4 0) (λ k. false) (λ k l. rw (zero-at 4 k) refl) h
+      ∙ due-first differs rows rep 65536 clause (takeFirst (λ k. false)) (free-prunes (Sought differs rows rep 65536 clause) low (λ k. false) (λ chosen x y r e. false-true e refl))

@@ -1,5 +1,5 @@
 -- From well-formed columns to what the search asks, and from what it gives to the answer.
---     rule-fit, hunting               what the search asks
+--     rule-fit, ready                 what the search asks
 --     finds                           what it gives is the answer
 --     finds-one                       two answers that meet the contract are equal
 --     answer-found, answer-places     what an answer says was found, and its four places
@@ -18,7 +18,6 @@ use Rattle.meaning.specs.Rules.{variables, Below, Found, found, nothing}
 use Rattle.meaning.specs.ByTable.{apartBy}
 use Rattle.meaning.specs.Columns.{rowFrom, rowsFrom, statementsFrom, patternsFrom, literalsFrom, contextFrom, clauseFrom}
 use Rattle.meaning.specs.Values.{levels, rowsAt}
-use Rattle.meaning.specs.FirstBy.{lowest}
 use Rattle.meaning.specs.Replies.{placesOf, replyOf}
 use Rattle.meaning.proofs.Lists.{below-append, below-at}
 use Rattle.meaning.proofs.Levels.{length-levels}
@@ -26,10 +25,9 @@ use Rattle.columns.specs.Fit.{Every, NamedAt, Laid, Written, FitContext, FitCla
 use Rattle.columns.proofs.Built.{build-length, rows-build}
 use Rattle.columns.proofs.Flat.{fit-statements, fit-literals, patterns-placed}
 use Rattle.search.specs.declared.Reply.{Reply}
-use Rattle.search.specs.Chains.{Chained}
 use Rattle.search.specs.Reading.{RuleFit, Listed}
 use Rattle.search.specs.Planning.{upTo, Levelled, Arranged}
-use Rattle.search.specs.Hunting.{stageOf, deadOf, enterOf, huntOf, answerOf, Planned, Hunting}
+use Rattle.search.specs.Hunting.{stageOf, deadOf, enterFrom, rowsOf, answerOf, Planned, Ready}
 use Rattle.search.specs.Finding.{foundBy, foundOf, FindsIn, fits, unfits}
 use Rattle.search.proofs.Planning.{ps-length, up-few, variables-few}
 use Rattle.search.proofs.Bridge.{order-front, hunt-first-by}
@@ -83,7 +81,7 @@ module _ {symbols counts args : List ℕ} {rows : ℕ} {kinds lefts rights : Lis
   pub rule-fit : RuleFit shapes heads arities subs patterns
   rule-fit = record { few = g .patterns-few; written = written }
 
-  module _ {first next : List ℕ} (chained : Chained symbols rows first next) {ls order ends : List ℕ}
+  module _ {ls order ends : List ℕ}
       (levelled : Levelled (levels (patternsFrom shapes heads arities subs patterns)) ls) (arranged : Arranged (take patterns ls) order ends) where
     levels-are : take patterns ls ≡ levels (patternsFrom shapes heads arities subs patterns)
     levels-are =
@@ -92,11 +90,12 @@ module _ {symbols counts args : List ℕ} {rows : ℕ} {kinds lefts rights : Lis
         ext-getD 0 (take patterns ls) (levels (patternsFrom shapes heads arities subs patterns)) (m ∙ sym n)
         (λ i h. getD-take patterns ls i 0 (omega arith) ∙ levelled .same i)
 
-    pub hunting : (vars : ℕ) → vars ≡ variables (patternsFrom shapes heads arities subs patterns)
-        → Hunting symbols counts args rows lefts rights statements first next shapes heads arities subs patterns order ends firsts seconds literals vars
-    hunting vars e =
+    pub ready : (vars : ℕ) → vars ≡ variables (patternsFrom shapes heads arities subs patterns)
+        → Ready counts args rows lefts rights statements shapes heads arities subs patterns order ends firsts seconds literals vars
+    ready vars e =
         record {
-          ledger = record { few = f .rows-few; laid = laid; chained = chained };
+          rows-few = f .rows-few;
+          laid = laid;
           sided = record { few = f .statements-few; named = named-wider lefts rights rows 255 statements (f .rows-few) (fit-statements symbols counts args rows kinds lefts rights statements f) };
           rule = rule-fit;
           planned = planned (take patterns ls) order ends patterns (omega (arith, length-take patterns ls, levelled .long, g .patterns-few)) (g .patterns-few) arranged;
@@ -104,30 +103,26 @@ module _ {symbols counts args : List ℕ} {rows : ℕ} {kinds lefts rights : Lis
           few = omega (arith, variables-few rule-fit);
         }
 
-    pub finds : (table : List ℕ) (vars : ℕ) (r : Reply) → vars ≡ variables (patternsFrom shapes heads arities subs patterns)
-        → r ≡ answerOf (enterOf (stageOf (rowsFrom symbols counts args rows) (repAt table) (patternsFrom shapes heads arities subs patterns) order ends)
-        (deadOf (apartBy (repAt table) (differencesOf (statementsFrom kinds lefts rights statements))) ls (literalsFrom signs firsts seconds literals))
-        (huntOf (stageOf (rowsFrom symbols counts args rows) (repAt table) (patternsFrom shapes heads arities subs patterns) order ends)
-        (deadOf (apartBy (repAt table) (differencesOf (statementsFrom kinds lefts rights statements))) ls (literalsFrom signs firsts seconds literals))
-        (lowest (repAt table) 0 rows) vars 0) 0 (replicate 4 255) (replicate 64 0))
-        → FindsIn symbols counts args rows kinds lefts rights statements table shapes heads arities subs patterns signs firsts seconds literals r
-    unfolding contextFrom clauseFrom
-    finds table vars r e q =
-        let n : length (rowsFrom symbols counts args rows) ≡ rows = rw (rows-build symbols counts args rows) (build-length (rowFrom symbols counts args) rows) in
-        let b = hunt-first-by (rowsFrom symbols counts args rows) (repAt table) (patternsFrom shapes heads arities subs patterns)
-        (patterns-placed shapes heads arities subs patterns (written .placed)) (omega (arith, ps-length shapes heads arities subs patterns, g .patterns-few)) ls order ends (levelled .same)
-        (rw levels-are at arranged) (apartBy (repAt table) (differencesOf (statementsFrom kinds lefts rights statements))) (literalsFrom signs firsts seconds literals) (variables-few rule-fit) in
-        let d : r ≡ answerOf (foundBy (contextFrom symbols counts args rows kinds lefts rights statements) table (clauseFrom shapes heads arities subs patterns signs firsts seconds literals)) =
-        q ∙ ap answerOf (ap₂ found-at (sym n) e) ∙ ap answerOf b in
-        subst (FindsIn symbols counts args rows kinds lefts rights statements table shapes heads arities subs patterns signs firsts seconds literals) (sym d) (fits f g)
-      where
-        found-at : ℕ → ℕ → Found
-        found-at m v =
-            enterOf (stageOf (rowsFrom symbols counts args rows) (repAt table) (patternsFrom shapes heads arities subs patterns) order ends)
-            (deadOf (apartBy (repAt table) (differencesOf (statementsFrom kinds lefts rights statements))) ls (literalsFrom signs firsts seconds literals))
-            (huntOf (stageOf (rowsFrom symbols counts args rows) (repAt table) (patternsFrom shapes heads arities subs patterns) order ends)
-            (deadOf (apartBy (repAt table) (differencesOf (statementsFrom kinds lefts rights statements))) ls (literalsFrom signs firsts seconds literals))
-            (lowest (repAt table) 0 m) v 0) 0 (replicate 4 255) (replicate 64 0)
+    module _ (table : List ℕ) (vars : ℕ) (e : vars ≡ variables (patternsFrom shapes heads arities subs patterns)) where
+      -- what the search gives, by the number of rows and of variables
+      abbrev huntBy : (ℕ → ℕ → List ℕ → List ℕ) → ℕ → ℕ → Found
+      huntBy rowsFor n v =
+          enterFrom (stageOf (rowsFrom symbols counts args rows) (repAt table) (patternsFrom shapes heads arities subs patterns) order ends)
+          (deadOf (apartBy (repAt table) (differencesOf (statementsFrom kinds lefts rights statements))) ls (literalsFrom signs firsts seconds literals)) (rowsFor n) v 0 (replicate 4 255) (replicate 64 0)
+
+      rows-are : length (rowsFrom symbols counts args rows) ≡ rows
+      rows-are = rw (rows-build symbols counts args rows) (build-length (rowFrom symbols counts args) rows)
+
+      pub finds : (r : Reply) → r ≡ answerOf (huntBy (λ n. rowsOf (repAt table) n (replicate 4 0) (replicate 4 0)) rows vars)
+          → FindsIn symbols counts args rows kinds lefts rights statements table shapes heads arities subs patterns signs firsts seconds literals r
+      unfolding contextFrom clauseFrom
+      finds r q =
+          let b = hunt-first-by (rowsFrom symbols counts args rows) (repAt table) (patternsFrom shapes heads arities subs patterns)
+          (patterns-placed shapes heads arities subs patterns (written .placed)) (omega (arith, ps-length shapes heads arities subs patterns, g .patterns-few)) ls order ends (levelled .same)
+          (rw levels-are at arranged) (apartBy (repAt table) (differencesOf (statementsFrom kinds lefts rights statements))) (literalsFrom signs firsts seconds literals) (variables-few rule-fit) in
+          let d : r ≡ answerOf (foundBy (contextFrom symbols counts args rows kinds lefts rights statements) table (clauseFrom shapes heads arities subs patterns signs firsts seconds literals)) =
+          q ∙ ap answerOf (ap₂ (huntBy (λ n. rowsOf (repAt table) n (replicate 4 0) (replicate 4 0))) (sym rows-are) e) ∙ ap answerOf b in
+          subst (FindsIn symbols counts args rows kinds lefts rights statements table shapes heads arities subs patterns signs firsts seconds literals) (sym d) (fits f g)
 
 -- ---- two answers
 

@@ -6,4 +6,6 @@ pub mod Testing
 pub mod Hunting
 pub mod Planning
 pub mod Bridge
+pub mod Next
+pub mod Onward
 pub mod Finding

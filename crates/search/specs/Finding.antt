@@ -1,8 +1,8 @@
--- What `find_in` answers.
---     foundBy       the first breach by a table, of what columns say
---     unfitReply    the answer to columns that are not well-formed
---     FindsIn       the answer to any columns and any table
---     foundOf       what a kind and four places say that was found
+-- What `find_in` and `next_in` answer.
+--     foundBy, laterBy    the first breach by a table, and the first after an assignment
+--     unfitReply          the answer to columns that are not well-formed
+--     FindsIn, NextIn     the answers to any columns and any table, and any assignment
+--     foundOf             what a kind and four places say that was found
 -- Assumes nothing.
 -- terms outside the table have the numbers from 65,536 on, above every entry of a table
 use mathlib.Core.List.{List, [], _∷_}
@@ -18,10 +18,14 @@ use Rattle.columns.specs.Fit.{FitContext, FitClause}
 use Rattle.search.specs.declared.Kind.{Kind}
 use Rattle.search.specs.declared.Kind.the-variants.{Breach, Clear, Unfit}
 use Rattle.search.specs.declared.Reply.{Reply}
+use Rattle.search.specs.Next.{nextBy}
 use Rattle.search.specs.Hunting.{answerOf}
 
 abbrev pub foundBy : Context → List ℕ → Clause → Found
 foundBy c table k = firstBy (apartBy (repAt table) (differences c)) (c .rows) (repAt table) 65536 k
+
+abbrev pub laterBy : Context → List ℕ → Clause → List ℕ → Found
+laterBy c table k after = nextBy (apartBy (repAt table) (differences c)) (c .rows) (repAt table) 65536 k after
 
 abbrev pub unfitReply : Reply
 unfitReply = record { kind = Unfit; places = 255 ∷ 255 ∷ 255 ∷ 255 ∷ [] }
@@ -38,3 +42,11 @@ pub data FindsIn (symbols counts args : List ℕ) (rows : ℕ) (kinds lefts righ
       (answerOf (foundBy (contextFrom symbols counts args rows kinds lefts rights statements) table (clauseFrom shapes heads arities subs patterns signs firsts seconds literals)))
   unfits : (FitContext symbols counts args rows kinds lefts rights statements → FitClause shapes heads arities subs patterns signs firsts seconds literals → ⊥)
       → FindsIn symbols counts args rows kinds lefts rights statements table shapes heads arities subs patterns signs firsts seconds literals unfitReply
+
+pub data NextIn (symbols counts args : List ℕ) (rows : ℕ) (kinds lefts rights : List ℕ) (statements : ℕ) (table shapes heads arities subs : List ℕ) (patterns : ℕ)
+    (signs firsts seconds : List ℕ) (literals : ℕ) (after : List ℕ) : Reply → Type 0 where
+  next-fits : FitContext symbols counts args rows kinds lefts rights statements → FitClause shapes heads arities subs patterns signs firsts seconds literals
+      → NextIn symbols counts args rows kinds lefts rights statements table shapes heads arities subs patterns signs firsts seconds literals after
+      (answerOf (laterBy (contextFrom symbols counts args rows kinds lefts rights statements) table (clauseFrom shapes heads arities subs patterns signs firsts seconds literals) after))
+  next-unfits : (FitContext symbols counts args rows kinds lefts rights statements → FitClause shapes heads arities subs patterns signs firsts seconds literals → ⊥)
+      → NextIn symbols counts args rows kinds lefts rights statements table shapes heads arities subs patterns signs firsts seconds literals after unfitReply

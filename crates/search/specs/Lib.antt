@@ -4,4 +4,5 @@ pub mod Reading
 pub mod Testing
 pub mod Planning
 pub mod Hunting
+pub mod Next
 pub mod Finding

@@ -1,17 +1,19 @@
 // The search: variables in order, rows that are their own representatives rising, each literal tried as soon as its last variable is set.
 ghost use mathlib.Core.Path.{_≡_};
+ghost use mathlib.Core.Bool.{_||_};
 ghost use mathlib.Core.List.{List};
 ghost use Prim.Native.Nat.{_+_, _-_, _≤_, _<_};
+ghost use lib.Dec.{eqb};
 ghost use lib.ListN.{set, take, replicate};
 ghost use Rattle.meaning.specs.Context.{differencesOf};
 ghost use Rattle.meaning.specs.Rules.{Found, found, nothing};
 ghost use Rattle.meaning.specs.Equality.{repAt};
 ghost use Rattle.meaning.specs.ByTable.{apartBy};
 ghost use Rattle.meaning.specs.Columns.{rowsFrom, statementsFrom, patternsFrom, literalsFrom};
-ghost use Rattle.meaning.specs.FirstBy.{lowest};
-ghost use Rattle.search.specs.Hunting.{stageOf, deadOf, enterOf, attemptOf, huntOf, candidateOf, answerOf, isBreach, Hunting, Chosen};
+ghost use Rattle.search.specs.Hunting.{stageOf, deadOf, startOf, rowsOf, huntOf, enterFrom, NextOwn, answerOf, isBreach, Ready, Hunting, Chosen};
 use crate::Kind;
 use crate::Reply;
+use crate::size::long;
 use crate::size::wide;
 use crate::size::wide8;
 
@@ -45,6 +47,16 @@ fn is_breach(r: Reply) -> bool
     }
 }
 
+// Whether no later row of a variable is tried: a breach was found, or the variable takes its first row alone.
+fn settled(r: Reply, alone: u8) -> bool
+    ensures { λ b. ⌜ b ≡ (isBreach (r .kind) || eqb alone 1) ⌝ }
+{
+    if is_breach(r) {
+        return true;
+    }
+    alone == 1
+}
+
 fn unread() -> [u32; 64]
     ensures { λ r. ⌜ r ≡ replicate 64 0 ⌝ }
 {
@@ -67,74 +79,35 @@ fn choose(chosen: [u16; 4], k: u8, i: usize) -> [u16; 4]
     c
 }
 
-// The first breach in which variable k has row i and the variables before it their chosen rows.
-fn try_row<'a>(
-    symbols: &'a [u16; 255],
-    counts: &'a [u8; 255],
-    args: &'a [u16; 1020],
-    rows: usize,
-    kinds: &'a [u8; 510],
-    lefts: &'a [u16; 510],
-    rights: &'a [u16; 510],
-    statements: usize,
-    table: &'a [u16; 255],
-    first: &'a [u16; 256],
-    next: &'a [u16; 255],
-    shapes: &'a [u8; 64],
-    heads: &'a [u16; 64],
-    arities: &'a [u8; 64],
-    subs: &'a [u16; 256],
-    patterns: usize,
-    levels: &'a [u8; 64],
-    order: &'a [u8; 64],
-    ends: &'a [u8; 6],
-    signs: &'a [u8; 16],
-    firsts: &'a [u16; 16],
-    seconds: &'a [u16; 16],
-    literals: usize,
-    variables: u8,
-    k: u8,
-    chosen: [u16; 4],
-    values: [u32; 64],
-    i: usize,
-) -> Reply
-    requires { ⌜ Hunting (now symbols) (now counts) (now args) rows (now lefts) (now rights) statements (now first) (now next) (now shapes) (now heads) (now arities) (now subs) patterns (now order) (now ends) (now firsts) (now seconds) literals variables ⌝ }
-    requires { ⌜ (k < variables) × (i < rows) × Chosen k chosen ⌝ }
-    ensures { λ r. ⌜ r ≡ answerOf (candidateOf (repAt (now (table .entry))) (attemptOf (stageOf (rowsFrom (now (symbols .entry)) (now (counts .entry)) (now (args .entry)) rows) (repAt (now (table .entry))) (patternsFrom (now (shapes .entry)) (now (heads .entry)) (now (arities .entry)) (now (subs .entry)) patterns) (now (order .entry)) (now (ends .entry))) (deadOf (apartBy (repAt (now (table .entry))) (differencesOf (statementsFrom (now (kinds .entry)) (now (lefts .entry)) (now (rights .entry)) statements))) (now (levels .entry)) (literalsFrom (now (signs .entry)) (now (firsts .entry)) (now (seconds .entry)) literals)) (huntOf (stageOf (rowsFrom (now (symbols .entry)) (now (counts .entry)) (now (args .entry)) rows) (repAt (now (table .entry))) (patternsFrom (now (shapes .entry)) (now (heads .entry)) (now (arities .entry)) (now (subs .entry)) patterns) (now (order .entry)) (now (ends .entry))) (deadOf (apartBy (repAt (now (table .entry))) (differencesOf (statementsFrom (now (kinds .entry)) (now (lefts .entry)) (now (rights .entry)) statements))) (now (levels .entry)) (literalsFrom (now (signs .entry)) (now (firsts .entry)) (now (seconds .entry)) literals)) (lowest (repAt (now (table .entry))) 0 rows) (variables - (k + 1)) (k + 1)) k chosen values) i) ⌝ }
+// The row that variable k begins with: that of the assignment to start from while the rows before it are the assignment's, else row 0.
+fn begins(from: [u32; 4], chosen: [u16; 4], k: u8) -> usize
+    requires { ⌜ k < 4 ⌝ }
+    ensures { λ r. ⌜ r ≡ startOf from k chosen ⌝ }
 {
-    if wide(table[i]) != i {
-        return clear();
+    let n = wide8(k);
+    let mut j = 0;
+    while j < n {
+        if long(chosen[j]) != from[j] {
+            return 0;
+        }
+        j += 1;
     }
-    let c = choose(chosen, k, i);
-    enter(
-        symbols,
-        counts,
-        args,
-        rows,
-        kinds,
-        lefts,
-        rights,
-        statements,
-        table,
-        first,
-        next,
-        shapes,
-        heads,
-        arities,
-        subs,
-        patterns,
-        levels,
-        order,
-        ends,
-        signs,
-        firsts,
-        seconds,
-        literals,
-        variables,
-        k + 1,
-        c,
-        values,
-    )
+    from[n] as usize
+}
+
+// The first row from i on that is its own representative.
+fn own(table: &[u16; 255], rows: usize, i: usize) -> usize
+    requires { ⌜ rows ≤ 255 ⌝ }
+    ensures { λ r. ⌜ NextOwn (repAt (now (table .entry))) rows i r ⌝ }
+{
+    let mut j = i;
+    while j < rows {
+        if wide(table[j]) == j {
+            return j;
+        }
+        j += 1;
+    }
+    j
 }
 
 // The rows of level k are read and the literals of that level are tried; then the search goes on.
@@ -163,13 +136,15 @@ fn enter<'a>(
     seconds: &'a [u16; 16],
     literals: usize,
     variables: u8,
+    free: [u8; 4],
+    from: [u32; 4],
     k: u8,
     chosen: [u16; 4],
     values: [u32; 64],
 ) -> Reply
     requires { ⌜ Hunting (now symbols) (now counts) (now args) rows (now lefts) (now rights) statements (now first) (now next) (now shapes) (now heads) (now arities) (now subs) patterns (now order) (now ends) (now firsts) (now seconds) literals variables ⌝ }
     requires { ⌜ (k ≤ variables) × Chosen k chosen ⌝ }
-    ensures { λ r. ⌜ r ≡ answerOf (enterOf (stageOf (rowsFrom (now (symbols .entry)) (now (counts .entry)) (now (args .entry)) rows) (repAt (now (table .entry))) (patternsFrom (now (shapes .entry)) (now (heads .entry)) (now (arities .entry)) (now (subs .entry)) patterns) (now (order .entry)) (now (ends .entry))) (deadOf (apartBy (repAt (now (table .entry))) (differencesOf (statementsFrom (now (kinds .entry)) (now (lefts .entry)) (now (rights .entry)) statements))) (now (levels .entry)) (literalsFrom (now (signs .entry)) (now (firsts .entry)) (now (seconds .entry)) literals)) (huntOf (stageOf (rowsFrom (now (symbols .entry)) (now (counts .entry)) (now (args .entry)) rows) (repAt (now (table .entry))) (patternsFrom (now (shapes .entry)) (now (heads .entry)) (now (arities .entry)) (now (subs .entry)) patterns) (now (order .entry)) (now (ends .entry))) (deadOf (apartBy (repAt (now (table .entry))) (differencesOf (statementsFrom (now (kinds .entry)) (now (lefts .entry)) (now (rights .entry)) statements))) (now (levels .entry)) (literalsFrom (now (signs .entry)) (now (firsts .entry)) (now (seconds .entry)) literals)) (lowest (repAt (now (table .entry))) 0 rows) (variables - k) k) k chosen values) ⌝ }
+    ensures { λ r. ⌜ r ≡ answerOf (enterFrom (stageOf (rowsFrom (now (symbols .entry)) (now (counts .entry)) (now (args .entry)) rows) (repAt (now (table .entry))) (patternsFrom (now (shapes .entry)) (now (heads .entry)) (now (arities .entry)) (now (subs .entry)) patterns) (now (order .entry)) (now (ends .entry))) (deadOf (apartBy (repAt (now (table .entry))) (differencesOf (statementsFrom (now (kinds .entry)) (now (lefts .entry)) (now (rights .entry)) statements))) (now (levels .entry)) (literalsFrom (now (signs .entry)) (now (firsts .entry)) (now (seconds .entry)) literals)) (rowsOf (repAt (now (table .entry))) rows free from) (variables - k) k chosen values) ⌝ }
 {
     let j = wide8(k);
     let v = crate::value::read(
@@ -232,6 +207,8 @@ fn enter<'a>(
         seconds,
         literals,
         variables,
+        free,
+        from,
         k,
         chosen,
         v,
@@ -264,20 +241,23 @@ fn seek<'a>(
     seconds: &'a [u16; 16],
     literals: usize,
     variables: u8,
+    free: [u8; 4],
+    from: [u32; 4],
     k: u8,
     chosen: [u16; 4],
     values: [u32; 64],
 ) -> Reply
     requires { ⌜ Hunting (now symbols) (now counts) (now args) rows (now lefts) (now rights) statements (now first) (now next) (now shapes) (now heads) (now arities) (now subs) patterns (now order) (now ends) (now firsts) (now seconds) literals variables ⌝ }
     requires { ⌜ (k ≤ variables) × Chosen k chosen ⌝ }
-    ensures { λ r. ⌜ r ≡ answerOf (huntOf (stageOf (rowsFrom (now (symbols .entry)) (now (counts .entry)) (now (args .entry)) rows) (repAt (now (table .entry))) (patternsFrom (now (shapes .entry)) (now (heads .entry)) (now (arities .entry)) (now (subs .entry)) patterns) (now (order .entry)) (now (ends .entry))) (deadOf (apartBy (repAt (now (table .entry))) (differencesOf (statementsFrom (now (kinds .entry)) (now (lefts .entry)) (now (rights .entry)) statements))) (now (levels .entry)) (literalsFrom (now (signs .entry)) (now (firsts .entry)) (now (seconds .entry)) literals)) (lowest (repAt (now (table .entry))) 0 rows) (variables - k) k chosen values) ⌝ }
+    ensures { λ r. ⌜ r ≡ answerOf (huntOf (stageOf (rowsFrom (now (symbols .entry)) (now (counts .entry)) (now (args .entry)) rows) (repAt (now (table .entry))) (patternsFrom (now (shapes .entry)) (now (heads .entry)) (now (arities .entry)) (now (subs .entry)) patterns) (now (order .entry)) (now (ends .entry))) (deadOf (apartBy (repAt (now (table .entry))) (differencesOf (statementsFrom (now (kinds .entry)) (now (lefts .entry)) (now (rights .entry)) statements))) (now (levels .entry)) (literalsFrom (now (signs .entry)) (now (firsts .entry)) (now (seconds .entry)) literals)) (rowsOf (repAt (now (table .entry))) rows free from) (variables - k) k chosen values) ⌝ }
 {
     if variables <= k {
         return breach(k, chosen);
     }
-    let mut i = 0;
+    let alone = free[wide8(k)];
+    let mut i = own(table, rows, begins(from, chosen, k));
     while i < rows {
-        let r = try_row(
+        let r = enter(
             symbols,
             counts,
             args,
@@ -302,19 +282,21 @@ fn seek<'a>(
             seconds,
             literals,
             variables,
-            k,
-            chosen,
+            free,
+            from,
+            k + 1,
+            choose(chosen, k, i),
             values,
-            i,
         );
-        if is_breach(r) {
+        if settled(r, alone) {
             return r;
         }
-        i += 1;
+        i = own(table, rows, i + 1);
     }
     clear()
 }
 
+// The first breach at or after an assignment.
 pub(crate) fn start<'a>(
     symbols: &'a [u16; 255],
     counts: &'a [u8; 255],
@@ -325,8 +307,6 @@ pub(crate) fn start<'a>(
     rights: &'a [u16; 510],
     statements: usize,
     table: &'a [u16; 255],
-    first: &'a [u16; 256],
-    next: &'a [u16; 255],
     shapes: &'a [u8; 64],
     heads: &'a [u16; 64],
     arities: &'a [u8; 64],
@@ -340,10 +320,13 @@ pub(crate) fn start<'a>(
     seconds: &'a [u16; 16],
     literals: usize,
     variables: u8,
+    free: [u8; 4],
+    from: [u32; 4],
 ) -> Reply
-    requires { ⌜ Hunting (now symbols) (now counts) (now args) rows (now lefts) (now rights) statements (now first) (now next) (now shapes) (now heads) (now arities) (now subs) patterns (now order) (now ends) (now firsts) (now seconds) literals variables ⌝ }
-    ensures { λ r. ⌜ r ≡ answerOf (enterOf (stageOf (rowsFrom (now (symbols .entry)) (now (counts .entry)) (now (args .entry)) rows) (repAt (now (table .entry))) (patternsFrom (now (shapes .entry)) (now (heads .entry)) (now (arities .entry)) (now (subs .entry)) patterns) (now (order .entry)) (now (ends .entry))) (deadOf (apartBy (repAt (now (table .entry))) (differencesOf (statementsFrom (now (kinds .entry)) (now (lefts .entry)) (now (rights .entry)) statements))) (now (levels .entry)) (literalsFrom (now (signs .entry)) (now (firsts .entry)) (now (seconds .entry)) literals)) (huntOf (stageOf (rowsFrom (now (symbols .entry)) (now (counts .entry)) (now (args .entry)) rows) (repAt (now (table .entry))) (patternsFrom (now (shapes .entry)) (now (heads .entry)) (now (arities .entry)) (now (subs .entry)) patterns) (now (order .entry)) (now (ends .entry))) (deadOf (apartBy (repAt (now (table .entry))) (differencesOf (statementsFrom (now (kinds .entry)) (now (lefts .entry)) (now (rights .entry)) statements))) (now (levels .entry)) (literalsFrom (now (signs .entry)) (now (firsts .entry)) (now (seconds .entry)) literals)) (lowest (repAt (now (table .entry))) 0 rows) variables 0) 0 (replicate 4 255) (replicate 64 0)) ⌝ }
+    requires { ⌜ Ready (now counts) (now args) rows (now lefts) (now rights) statements (now shapes) (now heads) (now arities) (now subs) patterns (now order) (now ends) (now firsts) (now seconds) literals variables ⌝ }
+    ensures { λ r. ⌜ r ≡ answerOf (enterFrom (stageOf (rowsFrom (now (symbols .entry)) (now (counts .entry)) (now (args .entry)) rows) (repAt (now (table .entry))) (patternsFrom (now (shapes .entry)) (now (heads .entry)) (now (arities .entry)) (now (subs .entry)) patterns) (now (order .entry)) (now (ends .entry))) (deadOf (apartBy (repAt (now (table .entry))) (differencesOf (statementsFrom (now (kinds .entry)) (now (lefts .entry)) (now (rights .entry)) statements))) (now (levels .entry)) (literalsFrom (now (signs .entry)) (now (firsts .entry)) (now (seconds .entry)) literals)) (rowsOf (repAt (now (table .entry))) rows free from) variables 0 (replicate 4 255) (replicate 64 0)) ⌝ }
 {
+    let chains = crate::chain::link(symbols, rows);
     enter(
         symbols,
         counts,
@@ -354,8 +337,8 @@ pub(crate) fn start<'a>(
         rights,
         statements,
         table,
-        first,
-        next,
+        &chains.first,
+        &chains.next,
         shapes,
         heads,
         arities,
@@ -369,6 +352,8 @@ pub(crate) fn start<'a>(
         seconds,
         literals,
         variables,
+        free,
+        from,
         0,
         unset(),
         unread(),

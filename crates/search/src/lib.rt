@@ -72,7 +72,6 @@ pub fn find_in<'a>(
     ) {
         return unfit;
     }
-    let chains = chain::link(symbols, rows);
     let levels = plan::levels(shapes, heads, arities, subs, patterns);
     let order = plan::arrange(&levels, patterns);
     let variables = plan::variables(shapes, heads, arities, subs, patterns);
@@ -86,8 +85,6 @@ pub fn find_in<'a>(
         rights,
         statements,
         table,
-        &chains.first,
-        &chains.next,
         shapes,
         heads,
         arities,
@@ -101,5 +98,7 @@ pub fn find_in<'a>(
         seconds,
         literals,
         variables,
+        [0; 4],
+        [0; 4],
     )
 }

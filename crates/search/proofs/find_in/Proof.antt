@@ -3,7 +3,7 @@
 use borrow.Author.Tests.{not-true, not-false}
 use Rattle.columns.proofs.Deciding.{decides-not}
 use Rattle.search.specs.Finding.{unfits}
-use Rattle.search.proofs.Finding.{rule-fit, hunting, finds}
+use Rattle.search.proofs.Finding.{rule-fit, ready, finds}
 use native.Mathlib.Omega.{arith}
 use borrow.Author.Needs.{needs}
 use Rattle.search.proofs.find_in.Statement.{statement}
@@ -21,23 +21,20 @@ fit-clause-requires c κs = search needs
 returns-2 : tie.Need-returns-2
 returns-2 c = unfits (λ f g. decides-not (c .before .fit-clause .ensures .0) (not-true _ (c .if2 .taken)) g)
 
-link-requires : tie.Need-link-requires
-link-requires c κs = (c .before .before .before .fit-context .ensures .0 .holds (not-false _ (c .before .before .if1 .left))) .rows-few
-
 levels-requires : tie.Need-levels-requires
-levels-requires c κs = rule-fit (c .before .before .before .before .fit-context .ensures .0 .holds (not-false _ (c .before .before .before .if1 .left))) (c .before .before .fit-clause .ensures .0 .holds (not-false _ (c .before .if2 .left))) (c .before .before .before .before .fit-context .ensures .1 (not-false _ (c .before .before .before .if1 .left))) (c .before .before .fit-clause .ensures .1 (not-false _ (c .before .if2 .left)))
+levels-requires c κs = rule-fit (c .before .before .before .fit-context .ensures .0 .holds (not-false _ (c .before .before .if1 .left))) (c .before .fit-clause .ensures .0 .holds (not-false _ (c .if2 .left))) (c .before .before .before .fit-context .ensures .1 (not-false _ (c .before .before .if1 .left))) (c .before .fit-clause .ensures .1 (not-false _ (c .if2 .left)))
 
 arrange-requires : tie.Need-arrange-requires
-arrange-requires c κs = ((c .before .before .before .before .fit-clause .ensures .0 .holds (not-false _ (c .before .before .before .if2 .left))) .patterns-few, omega (arith, (c .before .before .before .before .fit-clause .ensures .0 .holds (not-false _ (c .before .before .before .if2 .left))) .patterns-few, c .before .levels .ensures .long))
+arrange-requires c κs = ((c .before .before .before .fit-clause .ensures .0 .holds (not-false _ (c .before .before .if2 .left))) .patterns-few, omega (arith, (c .before .before .before .fit-clause .ensures .0 .holds (not-false _ (c .before .before .if2 .left))) .patterns-few, c .before .levels .ensures .long))
 
 variables-requires : tie.Need-variables-requires
-variables-requires c κs = rule-fit (c .before .before .before .before .before .before .before .fit-context .ensures .0 .holds (not-false _ (c .before .before .before .before .before .before .if1 .left))) (c .before .before .before .before .before .fit-clause .ensures .0 .holds (not-false _ (c .before .before .before .before .if2 .left))) (c .before .before .before .before .before .before .before .fit-context .ensures .1 (not-false _ (c .before .before .before .before .before .before .if1 .left))) (c .before .before .before .before .before .fit-clause .ensures .1 (not-false _ (c .before .before .before .before .if2 .left)))
+variables-requires c κs = rule-fit (c .before .before .before .before .before .before .fit-context .ensures .0 .holds (not-false _ (c .before .before .before .before .before .if1 .left))) (c .before .before .before .before .fit-clause .ensures .0 .holds (not-false _ (c .before .before .before .if2 .left))) (c .before .before .before .before .before .before .fit-context .ensures .1 (not-false _ (c .before .before .before .before .before .if1 .left))) (c .before .before .before .before .fit-clause .ensures .1 (not-false _ (c .before .before .before .if2 .left)))
 
 start-requires : tie.Need-start-requires
-start-requires c κs = hunting (c .before .before .before .before .before .before .before .before .before .before .before .before .before .before .before .fit-context .ensures .0 .holds (not-false _ (c .before .before .before .before .before .before .before .before .before .before .before .before .before .before .if1 .left))) (c .before .before .before .before .before .before .before .before .before .before .before .before .before .fit-clause .ensures .0 .holds (not-false _ (c .before .before .before .before .before .before .before .before .before .before .before .before .if2 .left))) (c .before .before .before .before .before .before .before .before .before .before .before .before .before .before .before .fit-context .ensures .1 (not-false _ (c .before .before .before .before .before .before .before .before .before .before .before .before .before .before .if1 .left))) (c .before .before .before .before .before .before .before .before .before .before .before .before .before .fit-clause .ensures .1 (not-false _ (c .before .before .before .before .before .before .before .before .before .before .before .before .if2 .left))) (c .before .before .before .before .before .before .before .before .before .before .before .link .ensures) (c .before .before .before .before .before .before .before .before .before .before .levels .ensures) (c .before .before .before .before .before .before .before .before .arrange .ensures) _ (c .before .before .before .before .before .before .before .variables .ensures)
+start-requires c κs = ready (c .before .before .before .before .before .before .before .before .before .before .before .fit-context .ensures .0 .holds (not-false _ (c .before .before .before .before .before .before .before .before .before .before .if1 .left))) (c .before .before .before .before .before .before .before .before .before .fit-clause .ensures .0 .holds (not-false _ (c .before .before .before .before .before .before .before .before .if2 .left))) (c .before .before .before .before .before .before .before .before .before .before .before .fit-context .ensures .1 (not-false _ (c .before .before .before .before .before .before .before .before .before .before .if1 .left))) (c .before .before .before .before .before .before .before .before .before .fit-clause .ensures .1 (not-false _ (c .before .before .before .before .before .before .before .before .if2 .left))) (c .before .before .before .before .before .before .before .levels .ensures) (c .before .before .before .before .before .arrange .ensures) _ (c .before .before .before .before .variables .ensures)
 
 returns-3 : tie.Need-returns-3
-returns-3 c = finds (c .before .before .before .before .before .before .before .before .before .before .before .before .before .before .before .before .fit-context .ensures .0 .holds (not-false _ (c .before .before .before .before .before .before .before .before .before .before .before .before .before .before .before .if1 .left))) (c .before .before .before .before .before .before .before .before .before .before .before .before .before .before .fit-clause .ensures .0 .holds (not-false _ (c .before .before .before .before .before .before .before .before .before .before .before .before .before .if2 .left))) (c .before .before .before .before .before .before .before .before .before .before .before .before .before .before .before .before .fit-context .ensures .1 (not-false _ (c .before .before .before .before .before .before .before .before .before .before .before .before .before .before .before .if1 .left))) (c .before .before .before .before .before .before .before .before .before .before .before .before .before .before .fit-clause .ensures .1 (not-false _ (c .before .before .before .before .before .before .before .before .before .before .before .before .before .if2 .left))) (c .before .before .before .before .before .before .before .before .before .before .before .before .link .ensures) (c .before .before .before .before .before .before .before .before .before .before .before .levels .ensures) (c .before .before .before .before .before .before .before .before .before .arrange .ensures) (c .before .before .before .before .before .before .before .before .before .before .before .before .before .before .before .before .before .args .table .now) _ _ (c .before .before .before .before .before .before .before .before .variables .ensures) (c .start .ensures)
+returns-3 c = finds (c .before .before .before .before .before .before .before .before .before .before .before .before .fit-context .ensures .0 .holds (not-false _ (c .before .before .before .before .before .before .before .before .before .before .before .if1 .left))) (c .before .before .before .before .before .before .before .before .before .before .fit-clause .ensures .0 .holds (not-false _ (c .before .before .before .before .before .before .before .before .before .if2 .left))) (c .before .before .before .before .before .before .before .before .before .before .before .before .fit-context .ensures .1 (not-false _ (c .before .before .before .before .before .before .before .before .before .before .before .if1 .left))) (c .before .before .before .before .before .before .before .before .before .before .fit-clause .ensures .1 (not-false _ (c .before .before .before .before .before .before .before .before .before .if2 .left))) (c .before .before .before .before .before .before .before .before .levels .ensures) (c .before .before .before .before .before .before .arrange .ensures) (c .before .before .before .before .before .before .before .before .before .before .before .before .before .args .table .now) _ (c .before .before .before .before .before .variables .ensures) _ (c .start .ensures)
 
 pub find-in-spec : {M : Type 1} → statement M
 find-in-spec =
@@ -47,7 +44,6 @@ find-in-spec =
     returns
     fit-clause-requires
     returns-2
-    link-requires
     levels-requires
     arrange-requires
     variables-requires

@@ -2,11 +2,14 @@
 -- Assumes nothing.
 use mathlib.Core.Path.{ap, _∙_}
 use Rattle.search.specs.Hunting.{answerOf}
-use Rattle.search.proofs.Hunting.{start-enter, chosen-start}
+use Rattle.search.proofs.Hunting.{ready-hunting, start-enter, chosen-start}
 use native.Mathlib.Omega.{arith}
 use borrow.Author.Needs.{needs}
 use Rattle.search.proofs.hunt.start.Statement.{statement}
 use Rattle.search.proofs.hunt.start.Tie as tie
+
+link-requires : tie.Need-link-requires
+link-requires c κs = search needs
 
 unset-requires : tie.Need-unset-requires
 unset-requires c κs = search needs
@@ -15,10 +18,11 @@ unread-requires : tie.Need-unread-requires
 unread-requires c κs = search needs
 
 enter-requires : tie.Need-enter-requires
-enter-requires c κs = ((c .before .before .pre), (omega arith, chosen-start _ (c .before .unset .ensures)))
+enter-requires c κs = (ready-hunting (c .before .before .before .before .before .before .pre) (c .before .before .before .before .before .link .ensures), (omega arith, chosen-start _ (c .before .unset .ensures)))
 
 returns : tie.Need-returns
 returns c = c .enter .ensures ∙ ap answerOf (start-enter _ _ _ _ _ _ (c .before .before .unset .ensures) (c .before .unread .ensures))
 
 pub start-spec : {M : Type 1} → statement M
-start-spec = tie.close (tie.spec unset-requires unread-requires enter-requires returns)
+start-spec =
+    tie.close (tie.spec link-requires unset-requires unread-requires enter-requires returns)
