@@ -1,8 +1,7 @@
 -- The search of the code gives what the plain search gives, whatever the table is.
 --     order-front      the rows of the levels below k come first in the order
 --     hunt-search      the search over boxes, by a pruning that gives each variable its rows
---     free-narrows     of a variable that is marked the first row
---     hunt-first-by    the first breach
+--     hunt-free        where variables that are marked take their first row alone
 -- Assumes nothing.
 use mathlib.Core.Bool.{Bool, true, false, not, _&&_, _||_}
 use mathlib.Core.List.{List, [], _∷_, _++_, append-assoc}
@@ -20,17 +19,16 @@ use Rattle.meaning.specs.Rules.{Pattern, variable, apply, Literal, equal, unequ
 use Rattle.meaning.specs.Formed.{leftOf, rightOf, AllPlaced}
 use Rattle.meaning.specs.ByTable.{sameList}
 use Rattle.meaning.specs.Values.{levels, rowsAt, patternAt, numberAt, argsOf, Numbering, held, isOver, met, numberOf, step, number, stages}
-use Rattle.meaning.specs.FirstBy.{holdsBy, lowest, orElse, tryAll, firstBy}
-use Rattle.meaning.proofs.Logic.{false-true}
+use Rattle.meaning.specs.FirstBy.{holdsBy, lowest, orElse, tryAll}
 use Rattle.meaning.proofs.Box.{Box, Mem}
 use Rattle.meaning.proofs.Levels.{level-variable, rows-at, number-done}
 use Rattle.meaning.proofs.Search.{tryBox, search}
-use Rattle.meaning.proofs.Narrow.{takeFirst, free-prunes}
+use Rattle.meaning.proofs.Narrow.{takeFirst}
 use Rattle.meaning.proofs.Prefix.{stages-next}
-use Rattle.meaning.proofs.Pruned.{fails, startBox, Sought}
-use Rattle.meaning.proofs.Due.{due, deadNow, due-first}
+use Rattle.meaning.proofs.Pruned.{fails, startBox}
+use Rattle.meaning.proofs.Due.{due, deadNow}
+use Rattle.plan.specs.Planning.{upTo, Arranged}
 use Rattle.search.specs.Reading.{readOf}
-use Rattle.search.specs.Planning.{upTo, Arranged}
 use Rattle.search.specs.Hunting.{stageOf, deadOf, tryEach, enterOf, attemptOf, huntOf, enterFrom, startOf, aloneOf, rowsOf}
 
 abbrev pub Alike : List ℕ → List ℕ → Type 0
@@ -308,10 +306,3 @@ module _ (rows : List Row) (rep : ℕ → ℕ) (ps : List Pattern) (placed : All
     pub hunt-free : enterFrom st de (rowsOf rep (length rows) marks (replicate 4 0)) (variables ps) 0 (replicate 4 255) (replicate 64 0)
         ≡ search now (takeFirst free) (variables ps) [] (startBox rows rep clause)
     hunt-free = hunt-search (takeFirst free) (rowsOf rep (length rows) marks (replicate 4 0)) free-narrows h
-
-  -- no variable is marked
-  pub hunt-first-by : variables ps ≤ 4
-      → enterFrom st de (rowsOf rep (length rows) (replicate 4 0) (replicate 4 0)) (variables ps) 0 (replicate 4 255) (replicate 64 0) ≡ firstBy differs rows rep 65536 clause
-  hunt-first-by h =
-      hunt-free (replicate 4 0) (λ k. false) (λ k l. rw (zero-at 4 k) refl) h
-      ∙ due-first differs rows rep 65536 clause (takeFirst (λ k. false)) (free-prunes (Sought differs rows rep 65536 clause) low (λ k. false) (λ chosen x y r e. false-true e refl))

@@ -1,7 +1,9 @@
 -- From well-formed columns to what the search asks, and from what it gives to the answer.
---     rule-fit, ready                 what the search asks
---     finds                           what it gives is the answer
---     finds-one                       two answers that meet the contract are equal
+--     ready, later-asks               what the search asks
+--     finds, finds-none               what it gives is the first breach
+--     nexts, nexts-none               and the first after an assignment
+--     futile-not, futile-by           whether there can be no breach
+--     finds-one, nexts-one            two answers that meet the contract are equal
 --     answer-found, answer-places     what an answer says was found, and its four places
 -- Assumes nothing.
 use mathlib.Core.Bool.{Bool, true, false}
@@ -9,34 +11,48 @@ use mathlib.Core.List.{List, [], _∷_}
 use mathlib.Core.Path.{_≡_, refl, sym, ap, ap₂, _∙_, subst}
 use Prim.Native.Nat.{ℕ, zero, suc, _+_, _-_, _≤_, _<_}
 use native.Mathlib.Omega.{arith}
+use mir.Syntax.{w16}
+use mir.Val.{Fits}
 use lib.Dec.{eqb}
-use lib.ListN.{length, getD, take, replicate, length-append, length-take}
-use lib.Seq.{getD-take, ext-getD, take-append-seam}
+use lib.ListN.{length, getD, take, replicate, length-append}
+use lib.Seq.{getD-take, take-append-seam}
 use Rattle.meaning.specs.Context.{differencesOf}
 use Rattle.meaning.specs.Equality.{repAt}
-use Rattle.meaning.specs.Rules.{variables, Below, Found, found, nothing}
-use Rattle.meaning.specs.ByTable.{apartBy}
+use Rattle.meaning.specs.Rules.{Pattern, variables, Clause, Below, Found, found, nothing}
+use Rattle.meaning.specs.ByTable.{apartBy, clashOf}
 use Rattle.meaning.specs.Columns.{rowFrom, rowsFrom, statementsFrom, patternsFrom, literalsFrom, contextFrom, clauseFrom}
 use Rattle.meaning.specs.Values.{levels, rowsAt}
 use Rattle.meaning.specs.Replies.{placesOf, replyOf}
+use Rattle.meaning.proofs.Logic.{false-true}
 use Rattle.meaning.proofs.Lists.{below-append, below-at}
 use Rattle.meaning.proofs.Levels.{length-levels}
-use Rattle.columns.specs.Fit.{Every, NamedAt, Laid, Written, FitContext, FitClause}
+use Rattle.columns.specs.Fit.{Every, NamedAt, Laid, FitContext, FitClause}
 use Rattle.columns.proofs.Built.{build-length, rows-build}
-use Rattle.columns.proofs.Flat.{fit-statements, fit-literals, patterns-placed}
+use Rattle.columns.proofs.Flat.{fit-statements, fit-literals}
+use Rattle.closing.specs.Claims.{clashing}
+use Rattle.closing.specs.declared.Contradiction.{Contradiction}
+use Rattle.closing.specs.declared.Contradiction.the-variants as C
+use Rattle.plan.specs.declared.Plan.{Plan}
+use Rattle.plan.specs.Planning.{upTo, Arranged}
+use Rattle.plan.specs.Reach.{freeBy, never}
+use Rattle.plan.specs.Plans.{markOf, Plans, Planned as Plan-of}
+use Rattle.plan.specs.Plans as P
+use Rattle.plan.proofs.Levels.{ps-length, variables-few}
+use Rattle.plan.proofs.Order.{up-few}
+use Rattle.plan.proofs.Freed.{freed-first, never-none}
 use Rattle.search.specs.declared.Reply.{Reply}
-use Rattle.search.specs.Reading.{RuleFit, Listed}
-use Rattle.search.specs.Planning.{upTo, Levelled, Arranged}
+use Rattle.search.specs.Reading.{Listed}
 use Rattle.search.specs.Hunting.{stageOf, deadOf, enterFrom, rowsOf, answerOf, Planned, Ready}
-use Rattle.search.specs.Finding.{foundBy, foundOf, FindsIn, fits, unfits}
-use Rattle.search.proofs.Planning.{ps-length, up-few, variables-few}
-use Rattle.search.proofs.Bridge.{order-front, hunt-first-by}
+use Rattle.search.specs.Finding.{foundBy, laterBy, foundOf, nextOf, isClear, Futile, unfitReply, FindsIn, fits, unfits, NextIn, next-fits, next-unfits}
+use Rattle.search.proofs.Bridge.{order-front, hunt-free}
+use Rattle.search.proofs.Next.{next-none, next-long, next-bump}
+use Rattle.search.proofs.Onward.{hunt-next}
 
 named-wider : (lefts rights : List ℕ) (m n count : ℕ) → m ≤ n → Every count (NamedAt lefts rights m) → Every count (NamedAt lefts rights n)
 named-wider lefts rights m n count h e =
     record { each = λ j l. record { left = omega (arith, e .each j l .left); right = omega (arith, e .each j l .right) } }
 
--- ---- the plan
+-- ---- the order
 
 rows-below : (k i : ℕ) (l : List ℕ) (n : ℕ) → i + length l ≤ n → Below n (rowsAt k i l)
 unfolding rowsAt
@@ -72,59 +88,140 @@ planned ls order ends patterns h few a = record { listed = list; rises = rise }
     rise : (k : ℕ) → k < 5 → getD ends k 0 ≤ getD ends (suc k) 0
     rise k l = omega (arith, a .count k (omega arith), a .count (suc k) l, up-step ls k)
 
+-- ---- the plan
+
+plans-fit : {shapes heads arities subs : List ℕ} {patterns : ℕ} {signs firsts seconds : List ℕ} {literals : ℕ} {r : Plan}
+    → Plans shapes heads arities subs patterns signs firsts seconds literals r → r .fit ≡ true
+    → FitClause shapes heads arities subs patterns signs firsts seconds literals × Plan-of shapes heads arities subs patterns signs firsts seconds literals r
+plans-fit (P.fits g p) e = (g, p)
+plans-fit (P.unfits n) e = false-true e refl
+
+pub plans-unfit : {shapes heads arities subs : List ℕ} {patterns : ℕ} {signs firsts seconds : List ℕ} {literals : ℕ} {r : Plan}
+    → Plans shapes heads arities subs patterns signs firsts seconds literals r → r .fit ≡ false → FitClause shapes heads arities subs patterns signs firsts seconds literals → ⊥
+plans-unfit (P.fits g p) e f = false-true (p .fit) e
+plans-unfit (P.unfits n) e f = n f
+
+mark-read : (b : Bool) → eqb (markOf b) 1 ≡ b
+unfolding markOf
+mark-read true = refl
+mark-read false = refl
+
 -- ---- all together
 
 module _ {symbols counts args : List ℕ} {rows : ℕ} {kinds lefts rights : List ℕ} {statements : ℕ} {shapes heads arities subs : List ℕ} {patterns : ℕ}
-    {signs firsts seconds : List ℕ} {literals : ℕ}
-    (f : FitContext symbols counts args rows kinds lefts rights statements) (g : FitClause shapes heads arities subs patterns signs firsts seconds literals)
-    (laid : Laid counts args rows) (written : Written shapes heads arities subs patterns) where
-  pub rule-fit : RuleFit shapes heads arities subs patterns
-  rule-fit = record { few = g .patterns-few; written = written }
+    {signs firsts seconds : List ℕ} {literals : ℕ} {plan : Plan}
+    (f : FitContext symbols counts args rows kinds lefts rights statements) (laid : Laid counts args rows)
+    (plans : Plans shapes heads arities subs patterns signs firsts seconds literals plan) (fit : plan .fit ≡ true) where
+  abbrev ps : List Pattern
+  ps = patternsFrom shapes heads arities subs patterns
 
-  module _ {ls order ends : List ℕ}
-      (levelled : Levelled (levels (patternsFrom shapes heads arities subs patterns)) ls) (arranged : Arranged (take patterns ls) order ends) where
-    levels-are : take patterns ls ≡ levels (patternsFrom shapes heads arities subs patterns)
-    levels-are =
-        let n : length (levels (patternsFrom shapes heads arities subs patterns)) ≡ patterns = length-levels (patternsFrom shapes heads arities subs patterns) ∙ ps-length shapes heads arities subs patterns in
-        let m : length (take patterns ls) ≡ patterns = omega (arith, length-take patterns ls, levelled .long, g .patterns-few) in
-        ext-getD 0 (take patterns ls) (levels (patternsFrom shapes heads arities subs patterns)) (m ∙ sym n)
-        (λ i h. getD-take patterns ls i 0 (omega arith) ∙ levelled .same i)
+  abbrev differs : List ℕ → ℕ → ℕ → Bool
+  differs table = apartBy (repAt table) (differencesOf (statementsFrom kinds lefts rights statements))
 
-    pub ready : (vars : ℕ) → vars ≡ variables (patternsFrom shapes heads arities subs patterns)
-        → Ready counts args rows lefts rights statements shapes heads arities subs patterns order ends firsts seconds literals vars
-    ready vars e =
-        record {
-          rows-few = f .rows-few;
-          laid = laid;
-          sided = record { few = f .statements-few; named = named-wider lefts rights rows 255 statements (f .rows-few) (fit-statements symbols counts args rows kinds lefts rights statements f) };
-          rule = rule-fit;
-          planned = planned (take patterns ls) order ends patterns (omega (arith, length-take patterns ls, levelled .long, g .patterns-few)) (g .patterns-few) arranged;
-          tested = record { few = g .literals-few; named = named-wider firsts seconds patterns 64 literals (g .patterns-few) (fit-literals shapes heads arities subs patterns signs firsts seconds literals g) };
-          few = omega (arith, variables-few rule-fit);
-        }
+  g : FitClause shapes heads arities subs patterns signs firsts seconds literals
+  g = plans-fit plans fit .0
 
-    module _ (table : List ℕ) (vars : ℕ) (e : vars ≡ variables (patternsFrom shapes heads arities subs patterns)) where
-      -- what the search gives, by the number of rows and of variables
-      abbrev huntBy : (ℕ → ℕ → List ℕ → List ℕ) → ℕ → ℕ → Found
-      huntBy rowsFor n v =
-          enterFrom (stageOf (rowsFrom symbols counts args rows) (repAt table) (patternsFrom shapes heads arities subs patterns) order ends)
-          (deadOf (apartBy (repAt table) (differencesOf (statementsFrom kinds lefts rights statements))) ls (literalsFrom signs firsts seconds literals)) (rowsFor n) v 0 (replicate 4 255) (replicate 64 0)
+  p : Plan-of shapes heads arities subs patterns signs firsts seconds literals plan
+  p = plans-fit plans fit .1
 
-      rows-are : length (rowsFrom symbols counts args rows) ≡ rows
-      rows-are = rw (rows-build symbols counts args rows) (build-length (rowFrom symbols counts args) rows)
+  ps-few : length ps ≤ 64
+  ps-few = omega (arith, ps-length shapes heads arities subs patterns, g .patterns-few)
 
-      pub finds : (r : Reply) → r ≡ answerOf (huntBy (λ n. rowsOf (repAt table) n (replicate 4 0) (replicate 4 0)) rows vars)
-          → FindsIn symbols counts args rows kinds lefts rights statements table shapes heads arities subs patterns signs firsts seconds literals r
+  few : variables ps ≤ 4
+  few = variables-few (p .written .placed)
+
+  pub ready : Ready counts args rows lefts rights statements shapes heads arities subs patterns (plan .order) (plan .ends) firsts seconds literals (plan .variables)
+  ready =
+      record {
+        rows-few = f .rows-few;
+        laid = laid;
+        sided = record { few = f .statements-few; named = named-wider lefts rights rows 255 statements (f .rows-few) (fit-statements symbols counts args rows kinds lefts rights statements f) };
+        rule = record { few = g .patterns-few; written = p .written };
+        planned = planned (levels ps) (plan .order) (plan .ends) patterns (length-levels ps ∙ ps-length shapes heads arities subs patterns) (g .patterns-few) (p .arranged);
+        tested = record { few = g .literals-few; named = named-wider firsts seconds patterns 64 literals (g .patterns-few) (fit-literals shapes heads arities subs patterns signs firsts seconds literals g) };
+        few = omega (arith, few, p .counted);
+      }
+
+  pub later-asks : (plan .variables ≡ 0 → ⊥) → (0 < plan .variables) × (plan .variables ≤ 4)
+  later-asks n = (omega (arith, n), omega (arith, few, p .counted))
+
+  module _ (table : List ℕ) where
+    -- what the search gives, by the number of rows and of variables
+    abbrev huntBy : (ℕ → ℕ → List ℕ → List ℕ) → ℕ → ℕ → Found
+    huntBy rowsFor n v =
+        enterFrom (stageOf (rowsFrom symbols counts args rows) (repAt table) ps (plan .order) (plan .ends)) (deadOf (differs table) (plan .levels) (literalsFrom signs firsts seconds literals))
+        (rowsFor n) v 0 (replicate 4 255) (replicate 64 0)
+
+    rows-are : length (rowsFrom symbols counts args rows) ≡ rows
+    rows-are = rw (rows-build symbols counts args rows) (build-length (rowFrom symbols counts args) rows)
+
+    abbrev Finds : Reply → Type 0
+    Finds r = FindsIn symbols counts args rows kinds lefts rights statements table shapes heads arities subs patterns signs firsts seconds literals r
+
+    abbrev Nexts : List ℕ → Reply → Type 0
+    Nexts after r = NextIn symbols counts args rows kinds lefts rights statements table shapes heads arities subs patterns signs firsts seconds literals after r
+
+    module _ (b : Bool) (u : Futile (plan .never) (repAt table) (differencesOf (statementsFrom kinds lefts rights statements)) b) where
+      pub finds-none : (r : Reply) → b ≡ true → r ≡ answerOf nothing → Finds r
+      unfolding contextFrom clauseFrom
+      finds-none r t q =
+          let n : never (literalsFrom signs firsts seconds literals) ≡ true = sym (p .refuted) ∙ u .none t .0 in
+          let e : foundBy (contextFrom symbols counts args rows kinds lefts rights statements) table (clauseFrom shapes heads arities subs patterns signs firsts seconds literals) ≡ nothing =
+          never-none (rowsFrom symbols counts args rows) (repAt table) 65536 (differencesOf (statementsFrom kinds lefts rights statements))
+          (clauseFrom shapes heads arities subs patterns signs firsts seconds literals) (u .none t .1) n in
+          subst Finds (sym (q ∙ ap answerOf (sym e))) (fits f g)
+
+      pub finds : (r : Reply) → r ≡ answerOf (huntBy (λ n. rowsOf (repAt table) n (plan .free) (replicate 4 0)) rows (plan .variables)) → Finds r
       unfolding contextFrom clauseFrom
       finds r q =
-          let b = hunt-first-by (rowsFrom symbols counts args rows) (repAt table) (patternsFrom shapes heads arities subs patterns)
-          (patterns-placed shapes heads arities subs patterns (written .placed)) (omega (arith, ps-length shapes heads arities subs patterns, g .patterns-few)) ls order ends (levelled .same)
-          (rw levels-are at arranged) (apartBy (repAt table) (differencesOf (statementsFrom kinds lefts rights statements))) (literalsFrom signs firsts seconds literals) (variables-few rule-fit) in
-          let d : r ≡ answerOf (foundBy (contextFrom symbols counts args rows kinds lefts rights statements) table (clauseFrom shapes heads arities subs patterns signs firsts seconds literals)) =
-          q ∙ ap answerOf (ap₂ (huntBy (λ n. rowsOf (repAt table) n (replicate 4 0) (replicate 4 0))) (sym rows-are) e) ∙ ap answerOf b in
-          subst (FindsIn symbols counts args rows kinds lefts rights statements table shapes heads arities subs patterns signs firsts seconds literals) (sym d) (fits f g)
+          let k : Clause = clauseFrom shapes heads arities subs patterns signs firsts seconds literals in
+          let e = hunt-free (rowsFrom symbols counts args rows) (repAt table) ps (g .placed) ps-few (plan .levels) (plan .order) (plan .ends) (p .levelled .same) (p .arranged)
+          (differs table) (literalsFrom signs firsts seconds literals) (plan .free) (freeBy k) (λ v h. ap (λ m. eqb m 1) (p .frees .each v h) ∙ mark-read (freeBy k v)) few in
+          let d = freed-first (rowsFrom symbols counts args rows) (repAt table) 65536 (differencesOf (statementsFrom kinds lefts rights statements)) k (g .placed)
+          (rw (ps-length shapes heads arities subs patterns) (g .named)) (u .low) in
+          subst Finds
+          (sym (q ∙ ap answerOf (ap₂ (huntBy (λ n. rowsOf (repAt table) n (plan .free) (replicate 4 0))) (sym rows-are) (p .counted)) ∙ ap answerOf (e ∙ d))) (fits f g)
+
+    pub nexts-none : (after : List ℕ) (r : Reply) → plan .variables ≡ 0 → r ≡ answerOf nothing → Nexts after r
+    unfolding contextFrom clauseFrom
+    nexts-none after r z q =
+        let e : laterBy (contextFrom symbols counts args rows kinds lefts rights statements) table (clauseFrom shapes heads arities subs patterns signs firsts seconds literals) after ≡ nothing =
+        next-none (differs table) (rowsFrom symbols counts args rows) (repAt table) 65536 (clauseFrom shapes heads arities subs patterns signs firsts seconds literals) after (sym (p .counted) ∙ z) in
+        subst (Nexts after) (sym (q ∙ ap answerOf (sym e))) (next-fits f g)
+
+    pub nexts : (after from : List ℕ) (r : Reply) → length after ≡ 4 → (plan .variables ≡ 0 → ⊥) → from ≡ nextOf (plan .variables) after
+        → r ≡ answerOf (huntBy (λ n. rowsOf (repAt table) n (replicate 4 0) from) rows (plan .variables)) → Nexts after r
+    unfolding contextFrom clauseFrom
+    nexts after from r l n w q =
+        let some : 0 < variables ps = omega (arith, n, p .counted) in
+        let next : from ≡ nextOf (variables ps) after = w ∙ ap (λ v. nextOf v after) (p .counted) in
+        let e = hunt-next (rowsFrom symbols counts args rows) (repAt table) ps (g .placed) ps-few (plan .levels) (plan .order) (plan .ends) (p .levelled .same) (p .arranged)
+        (differs table) (literalsFrom signs firsts seconds literals) from few some after l (ap length next ∙ next-long (variables ps) after ∙ l)
+        (ap (take (variables ps)) next ∙ next-bump (variables ps) after l some few) in
+        subst (Nexts after)
+        (sym (q ∙ ap answerOf (ap₂ (huntBy (λ m. rowsOf (repAt table) m (replicate 4 0) from)) (sym rows-are) (p .counted)) ∙ ap answerOf e)) (next-fits f g)
+
+module _ (table : List ℕ) (low : (i : ℕ) → Fits w16 (getD table i 0)) where
+  table-low : (i : ℕ) → repAt table i < 65536
+  table-low i = omega (arith, low i .fits)
+
+  pub futile-not : (never : Bool) (ds : List (ℕ × ℕ)) → Futile never (repAt table) ds false
+  futile-not never ds = record { low = table-low; none = λ q. false-true q refl }
+
+  pub futile-by : (never : Bool) (ds : List (ℕ × ℕ)) (c : Contradiction) (b : Bool) → never ≡ true → clashing c ≡ clashOf (repAt table) ds → b ≡ isClear c → Futile never (repAt table) ds b
+  futile-by never ds (C.First n) b t e q = record { low = table-low; none = λ w. false-true w q }
+  futile-by never ds C.Clear b t e q = record { low = table-low; none = λ w. (t, sym e) }
 
 -- ---- two answers
+
+module _ {symbols counts args : List ℕ} {rows : ℕ} {kinds lefts rights : List ℕ} {statements : ℕ} {table shapes heads arities subs : List ℕ} {patterns : ℕ}
+    {signs firsts seconds : List ℕ} {literals : ℕ} (n : FitContext symbols counts args rows kinds lefts rights statements → FitClause shapes heads arities subs patterns signs firsts seconds literals → ⊥)
+    (r : Reply) (e : r ≡ unfitReply) where
+  pub finds-unfit : FindsIn symbols counts args rows kinds lefts rights statements table shapes heads arities subs patterns signs firsts seconds literals r
+  finds-unfit = subst (FindsIn symbols counts args rows kinds lefts rights statements table shapes heads arities subs patterns signs firsts seconds literals) (sym e) (unfits n)
+
+  pub nexts-unfit : (after : List ℕ) → NextIn symbols counts args rows kinds lefts rights statements table shapes heads arities subs patterns signs firsts seconds literals after r
+  nexts-unfit after = subst (NextIn symbols counts args rows kinds lefts rights statements table shapes heads arities subs patterns signs firsts seconds literals after) (sym e) (next-unfits n)
 
 pub finds-one : {symbols counts args : List ℕ} {rows : ℕ} {kinds lefts rights : List ℕ} {statements : ℕ} {table shapes heads arities subs : List ℕ} {patterns : ℕ}
     {signs firsts seconds : List ℕ} {literals : ℕ} {r s : Reply}
@@ -134,6 +231,15 @@ finds-one (fits f g) (fits p q) = refl
 finds-one (fits f g) (unfits n) = absurd (n f g)
 finds-one (unfits n) (fits f g) = absurd (n f g)
 finds-one (unfits n) (unfits m) = refl
+
+pub nexts-one : {symbols counts args : List ℕ} {rows : ℕ} {kinds lefts rights : List ℕ} {statements : ℕ} {table shapes heads arities subs : List ℕ} {patterns : ℕ}
+    {signs firsts seconds : List ℕ} {literals : ℕ} {after : List ℕ} {r s : Reply}
+    → NextIn symbols counts args rows kinds lefts rights statements table shapes heads arities subs patterns signs firsts seconds literals after r
+    → NextIn symbols counts args rows kinds lefts rights statements table shapes heads arities subs patterns signs firsts seconds literals after s → r ≡ s
+nexts-one (next-fits f g) (next-fits p q) = refl
+nexts-one (next-fits f g) (next-unfits n) = absurd (n f g)
+nexts-one (next-unfits n) (next-fits f g) = absurd (n f g)
+nexts-one (next-unfits n) (next-unfits m) = refl
 
 -- what was answered says what was found, and its places are those of the reply
 pub answer-found : (x : Found) → foundOf (answerOf x .kind) (answerOf x .places) ≡ x

@@ -4,7 +4,6 @@ pub mod Comparing
 pub mod Reading
 pub mod Testing
 pub mod Hunting
-pub mod Planning
 pub mod Bridge
 pub mod Next
 pub mod Onward

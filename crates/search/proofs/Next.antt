@@ -2,6 +2,8 @@
 --     earlier-before, before-earlier     the computed order is the order
 --     After, next-first                  what is sought after an assignment, and the first of it
 --     bump, bump-after                   the assignment that comes next, and what stands at or after it
+--     next-long, next-bump               the assignment to start from is the one that comes next
+--     later-is                           as the code puts it
 --     next-none                          with no variable nothing is after
 --     next-from                          what gives the first at or after the one that comes next gives the first after an assignment
 -- Assumes nothing.
@@ -9,11 +11,12 @@ use mathlib.Core.Bool.{Bool, true, false, _&&_}
 use mathlib.Core.List.{List, [], _∷_}
 use mathlib.Core.Path.{_≡_, refl, ap, sym, _∙_, subst}
 use mathlib.Core.Logic.{inl, inr, ⊎-elim, _↔_}
-use Prim.Native.Nat.{ℕ, zero, suc, _<_}
+use Prim.Native.Nat.{ℕ, zero, suc, _+_, _-_, _≤_, _<_}
 use native.Mathlib.Omega.{arith}
+use native.Mathlib.Numerals.{add-one}
 use lib.Dec.{eqb, ltb}
 use borrow.Author.Tests.{eqb-true, eqb-false, eq-eqb, ne-eqb, ltb-true, lt-ltb}
-use lib.ListN.{length, take}
+use lib.ListN.{length, getD, set, take, length-set}
 use Rattle.meaning.specs.Context.{Row}
 use Rattle.meaning.specs.Rules.{Clause, variables, Found, nothing, Before, First}
 use Rattle.meaning.specs.FirstBy.{breaks, seek, lowest}
@@ -24,6 +27,7 @@ use Rattle.meaning.proofs.Seek.{seek-first, starts, starts-rising}
 use Rattle.meaning.proofs.From.{AtOrAfter}
 use Rattle.meaning.proofs.Pruned.{Sought}
 use Rattle.search.specs.Next.{earlier, nextBy}
+use Rattle.search.specs.Finding.{nextOf}
 
 -- ---- the order
 
@@ -80,6 +84,35 @@ bump-after (x ∷ v ∷ b) (y ∷ z ∷ a) h e = (to (bump-after (v ∷ b) (z �
     from ih (inl q) = inr (cc, ih .1 (inl (cc)))
     from ih (inr (inl l)) = inl l
     from ih (inr (inr w)) = inr (w .0, ih .1 (inr (w .1)))
+
+-- the assignment to start from, of four places of which n are read
+pub next-long : (n : ℕ) (after : List ℕ) → length (nextOf n after) ≡ length after
+unfolding nextOf
+next-long n after = length-set after (n - 1) (getD after (n - 1) 0 + 1)
+
+pub next-bump : (n : ℕ) (after : List ℕ) → length after ≡ 4 → 0 < n → n ≤ 4 → take n (nextOf n after) ≡ bump (take n after)
+unfolding nextOf bump
+next-bump n [] l h m = absurd (omega arith)
+next-bump n (a ∷ []) l h m = absurd (omega arith)
+next-bump n (a ∷ b ∷ []) l h m = absurd (omega arith)
+next-bump n (a ∷ b ∷ c ∷ []) l h m = absurd (omega arith)
+next-bump n (a ∷ b ∷ c ∷ d ∷ e ∷ r) l h m = absurd (omega arith)
+next-bump zero (a ∷ b ∷ c ∷ d ∷ []) l h m = absurd (omega arith)
+next-bump (suc zero) (a ∷ b ∷ c ∷ d ∷ []) l h m = ap (λ x. x ∷ []) (add-one a)
+next-bump (suc (suc zero)) (a ∷ b ∷ c ∷ d ∷ []) l h m = ap (λ x. a ∷ x ∷ []) (add-one b)
+next-bump (suc (suc (suc zero))) (a ∷ b ∷ c ∷ d ∷ []) l h m = ap (λ x. a ∷ b ∷ x ∷ []) (add-one c)
+next-bump (suc (suc (suc (suc zero)))) (a ∷ b ∷ c ∷ d ∷ []) l h m = ap (λ x. a ∷ b ∷ c ∷ x ∷ []) (add-one d)
+next-bump (suc (suc (suc (suc (suc n))))) (a ∷ b ∷ c ∷ d ∷ []) l h m = absurd (omega arith)
+
+pub later-is : (after : List ℕ) (n k a b c d e : ℕ) → length after ≡ 4 → a ≡ getD after 0 0 → b ≡ getD after 1 0 → c ≡ getD after 2 0 → d ≡ getD after 3 0
+    → k ≡ n - 1 → e ≡ getD after k 0 → set (a ∷ b ∷ c ∷ d ∷ []) k (e + 1) ≡ nextOf n after
+unfolding nextOf
+later-is [] n k a b c d e l p q r s h w = absurd (omega arith)
+later-is (x ∷ []) n k a b c d e l p q r s h w = absurd (omega arith)
+later-is (x ∷ y ∷ []) n k a b c d e l p q r s h w = absurd (omega arith)
+later-is (x ∷ y ∷ z ∷ []) n k a b c d e l p q r s h w = absurd (omega arith)
+later-is (x ∷ y ∷ z ∷ t ∷ u ∷ m) n k a b c d e l p q r s h w = absurd (omega arith)
+later-is (x ∷ y ∷ z ∷ t ∷ []) n k a b c d e l p q r s h w = rw (p, q, r, s, w, h) refl
 
 -- ---- what is sought
 

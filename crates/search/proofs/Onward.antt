@@ -25,7 +25,7 @@ use Rattle.meaning.proofs.Narrow.{sift, siftBox, idle-keeps-all}
 use Rattle.meaning.proofs.From.{notEarlier, notBefore}
 use Rattle.meaning.proofs.Pruned.{startBox, Sought, dead, searchFrom, first-from-all}
 use Rattle.meaning.proofs.Due.{due-search}
-use Rattle.search.specs.Planning.{Arranged}
+use Rattle.plan.specs.Planning.{Arranged}
 use Rattle.search.specs.Next.{nextBy}
 use Rattle.search.specs.Hunting.{stageOf, deadOf, enterFrom, startOf, aloneOf, rowsOf}
 use Rattle.search.proofs.Bridge.{Alike, Narrows, zero-at, hunt-search}

@@ -2,19 +2,25 @@
 --     foundBy, laterBy    the first breach by a table, and the first after an assignment
 --     unfitReply          the answer to columns that are not well-formed
 --     FindsIn, NextIn     the answers to any columns and any table, and any assignment
+--     nextOf              the assignment of n rows that comes next after one
+--     Futile              whether there can be no breach, by p unequal p
 --     foundOf             what a kind and four places say that was found
 -- Assumes nothing.
 -- terms outside the table have the numbers from 65,536 on, above every entry of a table
+use mathlib.Core.Bool.{Bool, true, false}
 use mathlib.Core.List.{List, [], _∷_}
-use Prim.Native.Nat.{ℕ}
-use lib.ListN.{take}
+use mathlib.Core.Path.{_≡_}
+use Prim.Native.Nat.{ℕ, _+_, _-_, _<_}
+use lib.ListN.{getD, set, take}
 use Rattle.meaning.specs.Context.{Context, differences}
 use Rattle.meaning.specs.Equality.{repAt}
 use Rattle.meaning.specs.Rules.{Clause, Found, found, nothing}
-use Rattle.meaning.specs.ByTable.{apartBy}
+use Rattle.meaning.specs.ByTable.{apartBy, clear, clashOf}
 use Rattle.meaning.specs.Columns.{contextFrom, clauseFrom}
 use Rattle.meaning.specs.FirstBy.{firstBy}
 use Rattle.columns.specs.Fit.{FitContext, FitClause}
+use Rattle.closing.specs.declared.Contradiction.{Contradiction}
+use Rattle.closing.specs.declared.Contradiction.the-variants as C
 use Rattle.search.specs.declared.Kind.{Kind}
 use Rattle.search.specs.declared.Kind.the-variants.{Breach, Clear, Unfit}
 use Rattle.search.specs.declared.Reply.{Reply}
@@ -29,6 +35,18 @@ laterBy c table k after = nextBy (apartBy (repAt table) (differences c)) (c .row
 
 abbrev pub unfitReply : Reply
 unfitReply = record { kind = Unfit; places = 255 ∷ 255 ∷ 255 ∷ 255 ∷ [] }
+
+unfoldable pub nextOf : ℕ → List ℕ → List ℕ
+nextOf n after = set after (n - 1) (getD after (n - 1) 0 + 1)
+
+abbrev pub isClear : Contradiction → Bool
+isClear (C.First n) = false
+isClear C.Clear = true
+
+-- a table of two-byte entries; and where the answer is true, some literal is p unequal p and no stated difference has one representative for its sides
+pub record Futile (never : Bool) (rep : ℕ → ℕ) (ds : List (ℕ × ℕ)) (b : Bool) : Type 0 where
+  pub low : (i : ℕ) → rep i < 65536
+  pub none : b ≡ true → (never ≡ true) × (clashOf rep ds ≡ clear)
 
 abbrev pub foundOf : Kind → List ℕ → Found
 foundOf (Breach n) places = found (take n places)

@@ -19,11 +19,12 @@ use Rattle.meaning.specs.FirstBy.{lowest, orElse}
 use Rattle.meaning.proofs.Pruned.{fails}
 use Rattle.meaning.proofs.Due.{due}
 use Rattle.columns.specs.Fit.{Laid}
+use Rattle.plan.specs.Planning.{RuleFit}
 use Rattle.search.specs.declared.Kind.{Kind}
 use Rattle.search.specs.declared.Kind.the-variants.{Breach, Clear, Unfit}
 use Rattle.search.specs.declared.Reply.{Reply}
 use Rattle.search.specs.Chains.{LedgerFit}
-use Rattle.search.specs.Reading.{RuleFit, Listed, readOf}
+use Rattle.search.specs.Reading.{Listed, readOf}
 use Rattle.search.specs.Testing.{Sided, Tested}
 
 unfoldable pub stageOf : List Row → (ℕ → ℕ) → List Pattern → List ℕ → List ℕ → ℕ → List ℕ → List ℕ → List ℕ

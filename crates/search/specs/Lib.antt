@@ -2,7 +2,6 @@
 pub mod Chains
 pub mod Reading
 pub mod Testing
-pub mod Planning
 pub mod Hunting
 pub mod Next
 pub mod Finding

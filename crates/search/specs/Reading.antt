@@ -1,5 +1,5 @@
 -- Pattern rows read in an order: what the reading asks of its columns, and what it gives.
---     RuleFit, Listed, Asked      well-formed pattern rows; rows of an order that have been read; all that a reading asks
+--     Listed, Asked               rows of an order that have been read; all that a reading asks
 --     stateOf                     the values so far and the rows read so far
 --     lookOf, termOf, readOf      the value of a symbol over values, of one row, and the values after some rows of the order
 -- Assumes nothing.
@@ -12,12 +12,9 @@ use lib.Seq.{slice}
 use Rattle.meaning.specs.Context.{Row}
 use Rattle.meaning.specs.Rules.{Pattern}
 use Rattle.meaning.specs.Values.{patternAt, held, met, Numbering, numberOf, number}
-use Rattle.columns.specs.Fit.{PatternAt, Written}
+use Rattle.columns.specs.Fit.{PatternAt}
+use Rattle.plan.specs.Planning.{RuleFit}
 use Rattle.search.specs.Chains.{LedgerFit}
-
-pub record RuleFit (shapes heads arities subs : List ℕ) (patterns : ℕ) : Type 0 where
-  pub few : patterns ≤ 64
-  pub written : Written shapes heads arities subs patterns
 
 -- pattern row q can be compared with so many values
 pub record Shaped (shapes heads arities subs : List ℕ) (q count : ℕ) : Type 0 where

@@ -17,7 +17,7 @@ use crate::size::long;
 use crate::size::wide;
 use crate::size::wide8;
 
-fn clear() -> Reply
+pub(crate) fn clear() -> Reply
     ensures { λ r. ⌜ r ≡ answerOf nothing ⌝ }
 {
     Reply {

@@ -1,10 +1,18 @@
-// The first breach of a clause over a context, by a table of representatives that is handed in.
-ghost use Rattle.search.specs.Finding.{FindsIn};
+// The first breach of a clause over a context, and the first after an assignment, by a table of representatives that is handed in.
+ghost use mathlib.Core.Path.{_≡_};
+ghost use Prim.Native.Nat.{_≤_, _<_};
+ghost use lib.ListN.{length};
+ghost use Rattle.meaning.specs.Context.{differencesOf};
+ghost use Rattle.meaning.specs.Equality.{repAt};
+ghost use Rattle.meaning.specs.Columns.{statementsFrom};
+ghost use Rattle.search.specs.Finding.{FindsIn, Futile, NextIn, isClear, nextOf, unfitReply};
+use closing::Contradiction;
+use size::long;
+use size::wide8;
 
 mod chain;
 mod hunt;
 mod literal;
-mod plan;
 mod size;
 mod value;
 
@@ -19,6 +27,57 @@ pub enum Kind {
 pub struct Reply {
     pub kind: Kind,
     pub places: [u16; 4],
+}
+
+fn unfit() -> Reply
+    ensures { λ r. ⌜ r ≡ unfitReply ⌝ }
+{
+    Reply {
+        kind: Kind::Unfit,
+        places: [255; 4],
+    }
+}
+
+fn is_clear(c: Contradiction) -> bool
+    ensures { λ r. ⌜ r ≡ isClear c ⌝ }
+{
+    match c {
+        Contradiction::First(_) => false,
+        Contradiction::Clear => true,
+    }
+}
+
+// Whether there can be no breach: some literal is p unequal p, and no stated difference has one representative for its two sides.
+fn futile<'a>(
+    never: bool,
+    kinds: &'a [u8; 510],
+    lefts: &'a [u16; 510],
+    rights: &'a [u16; 510],
+    statements: usize,
+    table: [u16; 255],
+) -> bool
+    ensures { λ r. ⌜ Futile never (repAt table) (differencesOf (statementsFrom (now (kinds .entry)) (now (lefts .entry)) (now (rights .entry)) statements)) r ⌝ }
+{
+    if !never {
+        return false;
+    }
+    is_clear(closing::clash(kinds, lefts, rights, statements, &table))
+}
+
+// The assignment of n rows that comes next after one.
+fn later(after: [u16; 4], n: u8) -> [u32; 4]
+    requires { ⌜ (0 < n) × (n ≤ 4) ⌝ }
+    ensures { λ r. ⌜ (r ≡ nextOf n after) × (length after ≡ 4) ⌝ }
+{
+    let mut from = [
+        long(after[0]),
+        long(after[1]),
+        long(after[2]),
+        long(after[3]),
+    ];
+    let k = wide8(n - 1);
+    from[k] = long(after[k]) + 1;
+    from
 }
 
 pub fn find_in<'a>(
@@ -43,10 +102,6 @@ pub fn find_in<'a>(
 ) -> Reply
     ensures { λ r. ⌜ FindsIn (now (symbols .entry)) (now (counts .entry)) (now (args .entry)) rows (now (kinds .entry)) (now (lefts .entry)) (now (rights .entry)) statements (now (table .entry)) (now (shapes .entry)) (now (heads .entry)) (now (arities .entry)) (now (subs .entry)) patterns (now (signs .entry)) (now (firsts .entry)) (now (seconds .entry)) literals r ⌝ }
 {
-    let unfit = Reply {
-        kind: Kind::Unfit,
-        places: [255; 4],
-    };
     if !columns::fit_context(
         symbols,
         counts,
@@ -57,9 +112,9 @@ pub fn find_in<'a>(
         rights,
         statements,
     ) {
-        return unfit;
+        return unfit();
     }
-    if !columns::fit_clause(
+    let p = plan::plan_clause(
         shapes,
         heads,
         arities,
@@ -69,12 +124,13 @@ pub fn find_in<'a>(
         firsts,
         seconds,
         literals,
-    ) {
-        return unfit;
+    );
+    if !p.fit {
+        return unfit();
     }
-    let levels = plan::levels(shapes, heads, arities, subs, patterns);
-    let order = plan::arrange(&levels, patterns);
-    let variables = plan::variables(shapes, heads, arities, subs, patterns);
+    if futile(p.never, kinds, lefts, rights, statements, *table) {
+        return hunt::clear();
+    }
     hunt::start(
         symbols,
         counts,
@@ -90,15 +146,96 @@ pub fn find_in<'a>(
         arities,
         subs,
         patterns,
-        &levels,
-        &order.rows,
-        &order.ends,
+        &p.levels,
+        &p.order,
+        &p.ends,
         signs,
         firsts,
         seconds,
         literals,
-        variables,
+        p.variables,
+        p.free,
         [0; 4],
+    )
+}
+
+// The places of the assignment from the number of variables on are not read.
+pub fn next_in<'a>(
+    symbols: &'a [u16; 255],
+    counts: &'a [u8; 255],
+    args: &'a [u16; 1020],
+    rows: usize,
+    kinds: &'a [u8; 510],
+    lefts: &'a [u16; 510],
+    rights: &'a [u16; 510],
+    statements: usize,
+    table: &'a [u16; 255],
+    shapes: &'a [u8; 64],
+    heads: &'a [u16; 64],
+    arities: &'a [u8; 64],
+    subs: &'a [u16; 256],
+    patterns: usize,
+    signs: &'a [u8; 16],
+    firsts: &'a [u16; 16],
+    seconds: &'a [u16; 16],
+    literals: usize,
+    after: [u16; 4],
+) -> Reply
+    ensures { λ r. ⌜ NextIn (now (symbols .entry)) (now (counts .entry)) (now (args .entry)) rows (now (kinds .entry)) (now (lefts .entry)) (now (rights .entry)) statements (now (table .entry)) (now (shapes .entry)) (now (heads .entry)) (now (arities .entry)) (now (subs .entry)) patterns (now (signs .entry)) (now (firsts .entry)) (now (seconds .entry)) literals after r ⌝ }
+{
+    if !columns::fit_context(
+        symbols,
+        counts,
+        args,
+        rows,
+        kinds,
+        lefts,
+        rights,
+        statements,
+    ) {
+        return unfit();
+    }
+    let p = plan::plan_clause(
+        shapes,
+        heads,
+        arities,
+        subs,
+        patterns,
+        signs,
+        firsts,
+        seconds,
+        literals,
+    );
+    if !p.fit {
+        return unfit();
+    }
+    if p.variables == 0 {
+        return hunt::clear();
+    }
+    hunt::start(
+        symbols,
+        counts,
+        args,
+        rows,
+        kinds,
+        lefts,
+        rights,
+        statements,
+        table,
+        shapes,
+        heads,
+        arities,
+        subs,
+        patterns,
+        &p.levels,
+        &p.order,
+        &p.ends,
+        signs,
+        firsts,
+        seconds,
+        literals,
+        p.variables,
         [0; 4],
+        later(after, p.variables),
     )
 }

@@ -2,9 +2,7 @@
 -- Assumes nothing.
 use borrow.Author.Tests.{not-true, not-false}
 use Rattle.columns.proofs.Deciding.{decides-not}
-use Rattle.search.specs.Finding.{unfits}
-use Rattle.search.proofs.Finding.{rule-fit, ready, finds}
-use native.Mathlib.Omega.{arith}
+use Rattle.search.proofs.Finding.{plans-unfit, ready, finds, finds-none, finds-unfit}
 use borrow.Author.Needs.{needs}
 use Rattle.search.proofs.find_in.Statement.{statement}
 use Rattle.search.proofs.find_in.Tie as tie
@@ -12,40 +10,48 @@ use Rattle.search.proofs.find_in.Tie as tie
 fit-context-requires : tie.Need-fit-context-requires
 fit-context-requires c κs = search needs
 
-returns : tie.Need-returns
-returns c = unfits (λ f g. decides-not (c .before .fit-context .ensures .0) (not-true _ (c .if1 .taken)) f)
+unfit-requires : tie.Need-unfit-requires
+unfit-requires c κs = search needs
 
-fit-clause-requires : tie.Need-fit-clause-requires
-fit-clause-requires c κs = search needs
+returns : tie.Need-returns
+returns c = finds-unfit (λ f g. decides-not (c .before .before .fit-context .ensures .0) (not-true _ (c .before .if1 .taken)) f) _ (c .unfit .ensures)
+
+plan-clause-requires : tie.Need-plan-clause-requires
+plan-clause-requires c κs = search needs
+
+unfit-requires-2 : tie.Need-unfit-requires-2
+unfit-requires-2 c κs = search needs
 
 returns-2 : tie.Need-returns-2
-returns-2 c = unfits (λ f g. decides-not (c .before .fit-clause .ensures .0) (not-true _ (c .if2 .taken)) g)
+returns-2 c = finds-unfit (λ f g. plans-unfit (c .before .before .plan-clause .ensures) (not-true _ (c .before .if2 .taken)) g) _ (c .unfit2 .ensures)
 
-levels-requires : tie.Need-levels-requires
-levels-requires c κs = rule-fit (c .before .before .before .fit-context .ensures .0 .holds (not-false _ (c .before .before .if1 .left))) (c .before .fit-clause .ensures .0 .holds (not-false _ (c .if2 .left))) (c .before .before .before .fit-context .ensures .1 (not-false _ (c .before .before .if1 .left))) (c .before .fit-clause .ensures .1 (not-false _ (c .if2 .left)))
+futile-requires : tie.Need-futile-requires
+futile-requires c κs = search needs
 
-arrange-requires : tie.Need-arrange-requires
-arrange-requires c κs = ((c .before .before .before .fit-clause .ensures .0 .holds (not-false _ (c .before .before .if2 .left))) .patterns-few, omega (arith, (c .before .before .before .fit-clause .ensures .0 .holds (not-false _ (c .before .before .if2 .left))) .patterns-few, c .before .levels .ensures .long))
-
-variables-requires : tie.Need-variables-requires
-variables-requires c κs = rule-fit (c .before .before .before .before .before .before .fit-context .ensures .0 .holds (not-false _ (c .before .before .before .before .before .if1 .left))) (c .before .before .before .before .fit-clause .ensures .0 .holds (not-false _ (c .before .before .before .if2 .left))) (c .before .before .before .before .before .before .fit-context .ensures .1 (not-false _ (c .before .before .before .before .before .if1 .left))) (c .before .before .before .before .fit-clause .ensures .1 (not-false _ (c .before .before .before .if2 .left)))
-
-start-requires : tie.Need-start-requires
-start-requires c κs = ready (c .before .before .before .before .before .before .before .before .before .before .before .fit-context .ensures .0 .holds (not-false _ (c .before .before .before .before .before .before .before .before .before .before .if1 .left))) (c .before .before .before .before .before .before .before .before .before .fit-clause .ensures .0 .holds (not-false _ (c .before .before .before .before .before .before .before .before .if2 .left))) (c .before .before .before .before .before .before .before .before .before .before .before .fit-context .ensures .1 (not-false _ (c .before .before .before .before .before .before .before .before .before .before .if1 .left))) (c .before .before .before .before .before .before .before .before .before .fit-clause .ensures .1 (not-false _ (c .before .before .before .before .before .before .before .before .if2 .left))) (c .before .before .before .before .before .before .before .levels .ensures) (c .before .before .before .before .before .arrange .ensures) _ (c .before .before .before .before .variables .ensures)
+clear-requires : tie.Need-clear-requires
+clear-requires c κs = search needs
 
 returns-3 : tie.Need-returns-3
-returns-3 c = finds (c .before .before .before .before .before .before .before .before .before .before .before .before .fit-context .ensures .0 .holds (not-false _ (c .before .before .before .before .before .before .before .before .before .before .before .if1 .left))) (c .before .before .before .before .before .before .before .before .before .before .fit-clause .ensures .0 .holds (not-false _ (c .before .before .before .before .before .before .before .before .before .if2 .left))) (c .before .before .before .before .before .before .before .before .before .before .before .before .fit-context .ensures .1 (not-false _ (c .before .before .before .before .before .before .before .before .before .before .before .if1 .left))) (c .before .before .before .before .before .before .before .before .before .before .fit-clause .ensures .1 (not-false _ (c .before .before .before .before .before .before .before .before .before .if2 .left))) (c .before .before .before .before .before .before .before .before .levels .ensures) (c .before .before .before .before .before .before .arrange .ensures) (c .before .before .before .before .before .before .before .before .before .before .before .before .before .args .table .now) _ (c .before .before .before .before .before .variables .ensures) _ (c .start .ensures)
+returns-3 c = finds-none (c .before .before .before .before .before .before .before .fit-context .ensures .0 .holds (not-false _ (c .before .before .before .before .before .before .if1 .left))) (c .before .before .before .before .before .before .before .fit-context .ensures .1 (not-false _ (c .before .before .before .before .before .before .if1 .left))) (c .before .before .before .before .before .plan-clause .ensures) (not-false _ (c .before .before .before .before .if2 .left)) (c .before .before .before .before .before .before .before .before .args .table .now) _ (c .before .before .futile .ensures) _ (c .before .if3 .taken) (c .clear .ensures)
+
+start-requires : tie.Need-start-requires
+start-requires c κs = ready (c .before .before .before .before .before .before .before .before .before .before .before .fit-context .ensures .0 .holds (not-false _ (c .before .before .before .before .before .before .before .before .before .before .if1 .left))) (c .before .before .before .before .before .before .before .before .before .before .before .fit-context .ensures .1 (not-false _ (c .before .before .before .before .before .before .before .before .before .before .if1 .left))) (c .before .before .before .before .before .before .before .before .before .plan-clause .ensures) (not-false _ (c .before .before .before .before .before .before .before .before .if2 .left))
+
+returns-4 : tie.Need-returns-4
+returns-4 c = finds (c .before .before .before .before .before .before .before .before .before .before .before .before .fit-context .ensures .0 .holds (not-false _ (c .before .before .before .before .before .before .before .before .before .before .before .if1 .left))) (c .before .before .before .before .before .before .before .before .before .before .before .before .fit-context .ensures .1 (not-false _ (c .before .before .before .before .before .before .before .before .before .before .before .if1 .left))) (c .before .before .before .before .before .before .before .before .before .before .plan-clause .ensures) (not-false _ (c .before .before .before .before .before .before .before .before .before .if2 .left)) (c .before .before .before .before .before .before .before .before .before .before .before .before .before .args .table .now) _ (c .before .before .before .before .before .before .before .futile .ensures) _ (c .start .ensures)
 
 pub find-in-spec : {M : Type 1} → statement M
 find-in-spec =
     tie.close
     (tie.spec
     fit-context-requires
+    unfit-requires
     returns
-    fit-clause-requires
+    plan-clause-requires
+    unfit-requires-2
     returns-2
-    levels-requires
-    arrange-requires
-    variables-requires
+    futile-requires
+    clear-requires
+    returns-3
     start-requires
-    returns-3)
+    returns-4)
