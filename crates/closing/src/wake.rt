@@ -16,15 +16,28 @@ ghost use Rattle.meaning.specs.Columns.{rowsFrom};
 ghost use Rattle.meaning.proofs.Closing.{unite as united};
 ghost use Rattle.closing.specs.Steps.{Laid, Seated, Found, Nearer};
 
-// An argument's place becomes the first over a class, and the answer is the one that was next to it, as one more than its number, or 0 where
-// there was none.
-fn carry(over: &mut [u16; 255], beside: &mut [u16; 1020], class: usize, at: usize) -> usize
+// The links lead over the places of arguments of one class: place 1,020 + c to the first over the class c, and a place of an argument to the
+// next; each as one more than its number, or 0 where there is none.
+fn no_links() -> [u16; 1275] {
+    [0; 1275]
+}
+
+fn first_over(links: &[u16; 1275], class: usize) -> usize {
+    if class < 255 {
+        return wide(links[1020 + class]);
+    }
+    0
+}
+
+// An argument's place becomes the first over a class. The answer is where it led to before.
+fn carry(links: &mut [u16; 1275], class: usize, at: usize) -> usize
     requires { ⌜ at < 1020 ⌝ }
 {
-    let next = wide(beside[at]);
+    let next = wide(links[at]);
     if class < 255 {
-        beside[at] = over[class];
-        over[class] = (at + 1) as u16;
+        let first = links[1020 + class];
+        links[at] = first;
+        links[1020 + class] = (at + 1) as u16;
     }
     next
 }
@@ -33,8 +46,7 @@ fn carry(over: &mut [u16; 255], beside: &mut [u16; 1020], class: usize, at: usiz
 fn stand<'a>(
     args: &'a [u16; 1020],
     table: &'a [u16; 255],
-    over: &mut [u16; 255],
-    beside: &mut [u16; 1020],
+    links: &mut [u16; 1275],
     i: usize,
     count: usize,
 )
@@ -43,7 +55,7 @@ fn stand<'a>(
     let mut k: usize = 0;
     while k < count {
         let class = arg_class(args, table, i * 4 + k);
-        carry(over, beside, wide(class), i * 4 + k);
+        carry(links, wide(class), i * 4 + k);
         k += 1;
     }
 }
@@ -62,19 +74,12 @@ fn note(woken: &mut [u16; 255], n: usize, row: usize) -> usize
 }
 
 // The first four rows over the class hi are woken, and stand over lo from now on.
-fn wake(
-    over: &mut [u16; 255],
-    beside: &mut [u16; 1020],
-    woken: &mut [u16; 255],
-    n: usize,
-    lo: usize,
-    hi: usize,
-) -> usize
+fn wake(links: &mut [u16; 1275], woken: &mut [u16; 255], n: usize, lo: usize, hi: usize) -> usize
     requires { ⌜ n ≤ 255 ⌝ }
     ensures { λ r. ⌜ r ≤ 255 ⌝ }
 {
     let mut m = n;
-    let mut at = wide(at_row(over, hi));
+    let mut at = first_over(links, hi);
     let mut left: usize = 4;
     while left > 0 {
         if at == 0 {
@@ -84,17 +89,24 @@ fn wake(
             return m;
         }
         m = note(woken, m, (at - 1) / 4);
-        at = carry(over, beside, lo, at - 1);
+        at = carry(links, lo, at - 1);
         left -= 1;
     }
     m
 }
 
+fn lower(a: usize, b: usize) -> usize {
+    if a < b { a } else { b }
+}
+
+fn higher(a: usize, b: usize) -> usize {
+    if a < b { b } else { a }
+}
+
 // The classes of rows i and j become one, and the rows over the higher one are woken.
 fn wed(
     table: &mut [u16; 255],
-    over: &mut [u16; 255],
-    beside: &mut [u16; 1020],
+    links: &mut [u16; 1275],
     woken: &mut [u16; 255],
     n: usize,
     i: usize,
@@ -109,10 +121,7 @@ fn wed(
     if a == b {
         return n;
     }
-    if a < b {
-        return wake(over, beside, woken, n, a, b);
-    }
-    wake(over, beside, woken, n, b, a)
+    wake(links, woken, n, lower(a, b), higher(a, b))
 }
 
 // The last row that had row i's key, where it agrees with row i, as one more than its number, or 0.
@@ -152,8 +161,7 @@ fn meet<'a>(
     rows: usize,
     table: &mut [u16; 255],
     heads: &mut [u16; 256],
-    over: &mut [u16; 255],
-    beside: &mut [u16; 1020],
+    links: &mut [u16; 1275],
     woken: &mut [u16; 255],
     n: usize,
     i: usize,
@@ -167,7 +175,7 @@ fn meet<'a>(
     if at == 0 {
         return n;
     }
-    wed(table, over, beside, woken, n, i, at - 1)
+    wed(table, links, woken, n, i, at - 1)
 }
 
 // Woken rows meet, the last first, and wake others.
@@ -178,8 +186,7 @@ fn drain<'a>(
     rows: usize,
     table: &mut [u16; 255],
     heads: &mut [u16; 256],
-    over: &mut [u16; 255],
-    beside: &mut [u16; 1020],
+    links: &mut [u16; 1275],
     woken: &mut [u16; 255],
     n: usize,
 )
@@ -204,18 +211,13 @@ fn drain<'a>(
             rows,
             table,
             heads,
-            over,
-            beside,
+            links,
             woken,
             m - 1,
             i,
         );
         left -= 1;
     }
-}
-
-fn no_places() -> [u16; 1020] {
-    [0; 1020]
 }
 
 // A pass over the rows in which each merge is followed up at once.
@@ -230,8 +232,7 @@ pub fn follow<'a>(
     ensures { λ _. ⌜ Nearer (rowsFrom (now (symbols .entry)) (now (counts .entry)) (now (args .entry)) rows) (now (table .entry)) (now (table .exit)) ⌝ }
 {
     let mut heads = no_heads();
-    let mut over = no_next();
-    let mut beside = no_places();
+    let mut links = no_links();
     let mut woken = no_next();
     let mut i: usize = 0;
     while i < rows {
@@ -242,13 +243,12 @@ pub fn follow<'a>(
             rows,
             table,
             &mut heads,
-            &mut over,
-            &mut beside,
+            &mut links,
             &mut woken,
             0,
             i,
         );
-        stand(args, table, &mut over, &mut beside, i, wide8(counts[i]));
+        stand(args, table, &mut links, i, wide8(counts[i]));
         drain(
             symbols,
             counts,
@@ -256,8 +256,7 @@ pub fn follow<'a>(
             rows,
             table,
             &mut heads,
-            &mut over,
-            &mut beside,
+            &mut links,
             &mut woken,
             n,
         );

@@ -5,10 +5,10 @@ use Rattle.closing.proofs.wake.drain.Statement.{statement}
 use Rattle.closing.proofs.wake.drain.Tie as tie
 
 abbrev Inv-loop : tie.InvT-loop
-Inv-loop symbols counts args rows table₀ heads₀ over₀ beside₀ woken₀ n m₀ left₀ table heads over beside woken m left = Meeting symbols counts args rows table₀ table m
+Inv-loop symbols counts args rows table₀ heads₀ links₀ woken₀ n m₀ left₀ table heads links woken m left = Meeting symbols counts args rows table₀ table m
 
 abbrev μ-loop : tie.MeasureT-loop
-μ-loop symbols counts args rows table₀ heads₀ over₀ beside₀ woken₀ n m₀ left₀ table heads over beside woken m left = left
+μ-loop symbols counts args rows table₀ heads₀ links₀ woken₀ n m₀ left₀ table heads links woken m left = left
 
 loop-holds : tie.Need-loop-holds Inv-loop μ-loop
 loop-holds c = search mine

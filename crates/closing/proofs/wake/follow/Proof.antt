@@ -6,22 +6,19 @@ use Rattle.closing.proofs.wake.follow.Statement.{statement}
 use Rattle.closing.proofs.wake.follow.Tie as tie
 
 abbrev Inv-loop : tie.InvT-loop
-Inv-loop symbols counts args rows table₀ heads₀ over₀ beside₀ woken₀ i₀ table heads over beside woken i = Meeting symbols counts args rows table₀ table 0
+Inv-loop symbols counts args rows table₀ heads₀ links₀ woken₀ i₀ table heads links woken i = Meeting symbols counts args rows table₀ table 0
 
 abbrev μ-loop : tie.MeasureT-loop
-μ-loop symbols counts args rows table₀ heads₀ over₀ beside₀ woken₀ i₀ table heads over beside woken i = rows - i
+μ-loop symbols counts args rows table₀ heads₀ links₀ woken₀ i₀ table heads links woken i = rows - i
 
 no-heads-requires : tie.Need-no-heads-requires Inv-loop μ-loop
 no-heads-requires c κs = search mine
 
+no-links-requires : tie.Need-no-links-requires Inv-loop μ-loop
+no-links-requires c κs = search mine
+
 no-next-requires : tie.Need-no-next-requires Inv-loop μ-loop
 no-next-requires c κs = search mine
-
-no-places-requires : tie.Need-no-places-requires Inv-loop μ-loop
-no-places-requires c κs = search mine
-
-no-next-requires-2 : tie.Need-no-next-requires-2 Inv-loop μ-loop
-no-next-requires-2 c κs = search mine
 
 loop-holds : tie.Need-loop-holds Inv-loop μ-loop
 loop-holds c = search mine
@@ -60,9 +57,8 @@ follow-spec =
     Inv-loop
     μ-loop
     no-heads-requires
+    no-links-requires
     no-next-requires
-    no-places-requires
-    no-next-requires-2
     loop-holds
     meet-requires
     element-copy-out-wide8

@@ -6,10 +6,10 @@ use Rattle.closing.proofs.wake.stand.Statement.{statement}
 use Rattle.closing.proofs.wake.stand.Tie as tie
 
 abbrev Inv-loop : tie.InvT-loop
-Inv-loop args table over₀ beside₀ i count k₀ over beside k = Unit {0}
+Inv-loop args table links₀ i count k₀ links k = Unit {0}
 
 abbrev μ-loop : tie.MeasureT-loop
-μ-loop args table over₀ beside₀ i count k₀ over beside k = count - k
+μ-loop args table links₀ i count k₀ links k = count - k
 
 loop-holds : tie.Need-loop-holds Inv-loop μ-loop
 loop-holds c = search mine

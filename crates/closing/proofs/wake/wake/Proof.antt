@@ -6,16 +6,13 @@ use Rattle.closing.proofs.wake.wake.Statement.{statement}
 use Rattle.closing.proofs.wake.wake.Tie as tie
 
 abbrev Inv-loop : tie.InvT-loop
-Inv-loop over₀ beside₀ woken₀ n lo hi m₀ at₀ left₀ over beside woken m at left = m ≤ 255
+Inv-loop links₀ woken₀ n lo hi m₀ at₀ left₀ links woken m at left = m ≤ 255
 
 abbrev μ-loop : tie.MeasureT-loop
-μ-loop over₀ beside₀ woken₀ n lo hi m₀ at₀ left₀ over beside woken m at left = left
+μ-loop links₀ woken₀ n lo hi m₀ at₀ left₀ links woken m at left = left
 
-at-row-requires : tie.Need-at-row-requires Inv-loop μ-loop
-at-row-requires c κs = search mine
-
-wide-requires : tie.Need-wide-requires Inv-loop μ-loop
-wide-requires c κs = search mine
+first-over-requires : tie.Need-first-over-requires Inv-loop μ-loop
+first-over-requires c κs = search mine
 
 loop-holds : tie.Need-loop-holds Inv-loop μ-loop
 loop-holds c = search mine
@@ -56,8 +53,7 @@ wake-spec =
     (tie.spec
     Inv-loop
     μ-loop
-    at-row-requires
-    wide-requires
+    first-over-requires
     loop-holds
     returns
     returns-2
