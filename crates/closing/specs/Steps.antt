@@ -119,7 +119,7 @@ pub record Passed (rows : List Row) (l m : List ℕ) : Type 0 where
 
 -- ---- merges that follow a merge
 
--- an earlier or later row, as one more than its number, that agrees with row i, or 0
+-- a row that agrees with row i, as one more than its number, or 0 where none is found
 pub record Found (rows : List Row) (l : List ℕ) (n i at : ℕ) : Type 0 where
   pub bound : at ≤ n
   pub agrees : (p : ℕ) → at ≡ suc p → agree rows l i p ≡ true

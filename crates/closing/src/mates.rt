@@ -165,7 +165,7 @@ pub fn no_heads() -> [u16; 256]
     [0; 256]
 }
 
-pub fn no_next() -> [u16; 255]
+pub fn no_rows() -> [u16; 255]
     ensures { λ r. ⌜ r ≡ replicate 255 0 ⌝ }
 {
     [0; 255]
@@ -183,7 +183,7 @@ pub fn join_rows<'a>(
     ensures { λ _. ⌜ Passed (rowsFrom (now (symbols .entry)) (now (counts .entry)) (now (args .entry)) rows) (now (table .entry)) (now (table .exit)) ⌝ }
 {
     let mut heads = no_heads();
-    let mut next = no_next();
+    let mut next = no_rows();
     let mut i: usize = 0;
     while i < rows {
         let b = chain(symbols, counts, args, rows, table, i);

@@ -5,7 +5,7 @@ use super::mates::agree;
 use super::mates::arg_class;
 use super::mates::chain;
 use super::mates::no_heads;
-use super::mates::no_next;
+use super::mates::no_rows;
 use super::table::at_row;
 use super::table::unite;
 use super::table::wide;
@@ -233,7 +233,7 @@ pub fn follow<'a>(
 {
     let mut heads = no_heads();
     let mut links = no_links();
-    let mut woken = no_next();
+    let mut woken = no_rows();
     let mut i: usize = 0;
     while i < rows {
         let n = meet(

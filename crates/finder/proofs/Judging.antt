@@ -39,7 +39,7 @@ use Rattle.search.specs.Finding.{foundBy, FindsIn, fits, unfits}
 use Rattle.search.specs.declared.Kind.{Kind}
 use Rattle.search.specs.declared.Kind.the-variants as S
 use Rattle.search.specs.declared.Reply.{Reply as Searched}
-use Rattle.finder.specs.Claims.{said, asked, Held, ClosedIn, Asks, refusedWith, answeredWith, toldBy, toldOf, Judges, Finds}
+use Rattle.finder.specs.Claims.{said, asked, ClosedIn, Asks, refusedWith, answeredWith, toldBy, toldOf, Judges, Finds}
 use Rattle.finder.specs.declared.Outcome.{Outcome}
 use Rattle.finder.specs.declared.Outcome.the-variants as O
 use Rattle.finder.specs.declared.Reply.{Reply}

@@ -1,6 +1,7 @@
 -- `closing::settle` meets its contract. The invariant: what holds of the table from the start to the end, the sides of each equation have one representative, and `old` is the sum, which
 -- is also the measure.
 -- Assumes nothing.
+use borrow.Author.Needs.{needs}
 use Rattle.closing.proofs.Rounds.{Rounding, rounding-start, rounding-next, rounding-ends, rounding-less, rounding-again, mine}
 use Rattle.closing.proofs.settle.Statement.{statement}
 use Rattle.closing.proofs.settle.Tie as tie
@@ -30,7 +31,7 @@ returns c =
     let start = passed .before .before in
     let stated = start .before .before in
     let pre = stated .before .before .pre in
-    rounding-ends (rounding-start _ _ _ _ _ _ _ _ _ _ _ (pre .0) (pre .1 .0) (pre .1 .1) (stated .join-stated .ensures) (start .sum .ensures)) (passed .join-rows .ensures) (fresh .sum2 .ensures) (c .if1 .taken)
+    rounding-ends (rounding-start _ _ _ _ _ _ _ _ _ _ _ (pre .0) (pre .1 .0) (pre .1 .1) (stated .join-stated .ensures) (start .sum .ensures)) (passed .join-rows .ensures) (fresh .sum2 .ensures) (search needs)
 
 loop-holds : tie.Need-loop-holds Inv-loop μ-loop
 loop-holds c =
@@ -51,7 +52,7 @@ returns-2 : tie.Need-returns-2 Inv-loop μ-loop
 returns-2 c =
     let fresh = c .before in
     let passed = fresh .before .before in
-    rounding-ends (passed .before .before .loop .inv) (passed .join-rows2 .ensures) (fresh .sum3 .ensures) (c .if2 .taken)
+    rounding-ends (passed .before .before .loop .inv) (passed .join-rows2 .ensures) (fresh .sum3 .ensures) (search needs)
 
 follow-requires : tie.Need-follow-requires Inv-loop μ-loop
 follow-requires c κs = search mine

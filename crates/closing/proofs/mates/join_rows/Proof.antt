@@ -15,8 +15,8 @@ abbrev μ-loop : tie.MeasureT-loop
 no-heads-requires : tie.Need-no-heads-requires Inv-loop μ-loop
 no-heads-requires c κs = search mine
 
-no-next-requires : tie.Need-no-next-requires Inv-loop μ-loop
-no-next-requires c κs = search mine
+no-rows-requires : tie.Need-no-rows-requires Inv-loop μ-loop
+no-rows-requires c κs = search mine
 
 loop-holds : tie.Need-loop-holds Inv-loop μ-loop
 loop-holds c = search mine
@@ -81,7 +81,7 @@ join-rows-spec =
     Inv-loop
     μ-loop
     no-heads-requires
-    no-next-requires
+    no-rows-requires
     loop-holds
     chain-requires
     mul-head

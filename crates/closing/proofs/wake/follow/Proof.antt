@@ -17,8 +17,8 @@ no-heads-requires c κs = search mine
 no-links-requires : tie.Need-no-links-requires Inv-loop μ-loop
 no-links-requires c κs = search mine
 
-no-next-requires : tie.Need-no-next-requires Inv-loop μ-loop
-no-next-requires c κs = search mine
+no-rows-requires : tie.Need-no-rows-requires Inv-loop μ-loop
+no-rows-requires c κs = search mine
 
 loop-holds : tie.Need-loop-holds Inv-loop μ-loop
 loop-holds c = search mine
@@ -58,7 +58,7 @@ follow-spec =
     μ-loop
     no-heads-requires
     no-links-requires
-    no-next-requires
+    no-rows-requires
     loop-holds
     meet-requires
     element-copy-out-wide8
