@@ -140,11 +140,11 @@ fn enter<'a>(
     from: [u32; 4],
     k: u8,
     chosen: [u16; 4],
-    values: [u32; 64],
+    values: &'a [u32; 64],
 ) -> Reply
     requires { ⌜ Hunting (now symbols) (now counts) (now args) rows (now lefts) (now rights) statements (now first) (now next) (now shapes) (now heads) (now arities) (now subs) patterns (now order) (now ends) (now firsts) (now seconds) literals variables ⌝ }
     requires { ⌜ (k ≤ variables) × Chosen k chosen ⌝ }
-    ensures { λ r. ⌜ r ≡ answerOf (enterFrom (stageOf (rowsFrom (now (symbols .entry)) (now (counts .entry)) (now (args .entry)) rows) (repAt (now (table .entry))) (patternsFrom (now (shapes .entry)) (now (heads .entry)) (now (arities .entry)) (now (subs .entry)) patterns) (now (order .entry)) (now (ends .entry))) (deadOf (apartBy (repAt (now (table .entry))) (differencesOf (statementsFrom (now (kinds .entry)) (now (lefts .entry)) (now (rights .entry)) statements))) (now (levels .entry)) (literalsFrom (now (signs .entry)) (now (firsts .entry)) (now (seconds .entry)) literals)) (rowsOf (repAt (now (table .entry))) rows free from) (variables - k) k chosen values) ⌝ }
+    ensures { λ r. ⌜ r ≡ answerOf (enterFrom (stageOf (rowsFrom (now (symbols .entry)) (now (counts .entry)) (now (args .entry)) rows) (repAt (now (table .entry))) (patternsFrom (now (shapes .entry)) (now (heads .entry)) (now (arities .entry)) (now (subs .entry)) patterns) (now (order .entry)) (now (ends .entry))) (deadOf (apartBy (repAt (now (table .entry))) (differencesOf (statementsFrom (now (kinds .entry)) (now (lefts .entry)) (now (rights .entry)) statements))) (now (levels .entry)) (literalsFrom (now (signs .entry)) (now (firsts .entry)) (now (seconds .entry)) literals)) (rowsOf (repAt (now (table .entry))) rows free from) (variables - k) k chosen (now (values .entry))) ⌝ }
 {
     let j = wide8(k);
     let v = crate::value::read(
@@ -211,7 +211,7 @@ fn enter<'a>(
         from,
         k,
         chosen,
-        v,
+        &v,
     )
 }
 
@@ -245,11 +245,11 @@ fn seek<'a>(
     from: [u32; 4],
     k: u8,
     chosen: [u16; 4],
-    values: [u32; 64],
+    values: &'a [u32; 64],
 ) -> Reply
     requires { ⌜ Hunting (now symbols) (now counts) (now args) rows (now lefts) (now rights) statements (now first) (now next) (now shapes) (now heads) (now arities) (now subs) patterns (now order) (now ends) (now firsts) (now seconds) literals variables ⌝ }
     requires { ⌜ (k ≤ variables) × Chosen k chosen ⌝ }
-    ensures { λ r. ⌜ r ≡ answerOf (huntOf (stageOf (rowsFrom (now (symbols .entry)) (now (counts .entry)) (now (args .entry)) rows) (repAt (now (table .entry))) (patternsFrom (now (shapes .entry)) (now (heads .entry)) (now (arities .entry)) (now (subs .entry)) patterns) (now (order .entry)) (now (ends .entry))) (deadOf (apartBy (repAt (now (table .entry))) (differencesOf (statementsFrom (now (kinds .entry)) (now (lefts .entry)) (now (rights .entry)) statements))) (now (levels .entry)) (literalsFrom (now (signs .entry)) (now (firsts .entry)) (now (seconds .entry)) literals)) (rowsOf (repAt (now (table .entry))) rows free from) (variables - k) k chosen values) ⌝ }
+    ensures { λ r. ⌜ r ≡ answerOf (huntOf (stageOf (rowsFrom (now (symbols .entry)) (now (counts .entry)) (now (args .entry)) rows) (repAt (now (table .entry))) (patternsFrom (now (shapes .entry)) (now (heads .entry)) (now (arities .entry)) (now (subs .entry)) patterns) (now (order .entry)) (now (ends .entry))) (deadOf (apartBy (repAt (now (table .entry))) (differencesOf (statementsFrom (now (kinds .entry)) (now (lefts .entry)) (now (rights .entry)) statements))) (now (levels .entry)) (literalsFrom (now (signs .entry)) (now (firsts .entry)) (now (seconds .entry)) literals)) (rowsOf (repAt (now (table .entry))) rows free from) (variables - k) k chosen (now (values .entry))) ⌝ }
 {
     if variables <= k {
         return breach(k, chosen);
@@ -327,6 +327,7 @@ pub(crate) fn start<'a>(
     ensures { λ r. ⌜ r ≡ answerOf (enterFrom (stageOf (rowsFrom (now (symbols .entry)) (now (counts .entry)) (now (args .entry)) rows) (repAt (now (table .entry))) (patternsFrom (now (shapes .entry)) (now (heads .entry)) (now (arities .entry)) (now (subs .entry)) patterns) (now (order .entry)) (now (ends .entry))) (deadOf (apartBy (repAt (now (table .entry))) (differencesOf (statementsFrom (now (kinds .entry)) (now (lefts .entry)) (now (rights .entry)) statements))) (now (levels .entry)) (literalsFrom (now (signs .entry)) (now (firsts .entry)) (now (seconds .entry)) literals)) (rowsOf (repAt (now (table .entry))) rows free from) variables 0 (replicate 4 255) (replicate 64 0)) ⌝ }
 {
     let chains = crate::chain::link(symbols, rows);
+    let values = unread();
     enter(
         symbols,
         counts,
@@ -356,6 +357,6 @@ pub(crate) fn start<'a>(
         from,
         0,
         unset(),
-        unread(),
+        &values,
     )
 }

@@ -330,13 +330,13 @@ pub(crate) fn read<'a>(
     from: usize,
     to: usize,
     chosen: [u16; 4],
-    values: [u32; 64],
+    values: &'a [u32; 64],
 ) -> [u32; 64]
     requires { ⌜ Asked (now symbols) (now counts) (now args) rows (now first) (now next) (now shapes) (now heads) (now arities) (now subs) patterns (now order) to ⌝ }
     requires { ⌜ from ≤ to ⌝ }
-    ensures { λ r. ⌜ r ≡ readOf (rowsFrom (now (symbols .entry)) (now (counts .entry)) (now (args .entry)) rows) (repAt (now (table .entry))) (patternsFrom (now (shapes .entry)) (now (heads .entry)) (now (arities .entry)) (now (subs .entry)) patterns) (now (order .entry)) chosen values from to ⌝ }
+    ensures { λ r. ⌜ r ≡ readOf (rowsFrom (now (symbols .entry)) (now (counts .entry)) (now (args .entry)) rows) (repAt (now (table .entry))) (patternsFrom (now (shapes .entry)) (now (heads .entry)) (now (arities .entry)) (now (subs .entry)) patterns) (now (order .entry)) chosen (now (values .entry)) from to ⌝ }
 {
-    let mut values = values;
+    let mut values = *values;
     let mut j = from;
     while j < to {
         let row = wide8(order[j]);

@@ -201,7 +201,7 @@ enter-seek-requires : (t : ℕ) → enter-lts.Need-seek-requires (
   seek-below t,
   seek.Post,
 ) (enter-at t) enter.Post
-enter-seek-requires t c κs = (omega (arith, c .before .before .before .before .before .before .before .before .before .pre .0), (c .before .before .before .before .before .before .before .before .before .pre .1 .0, c .before .before .before .before .before .before .before .before .before .pre .1 .1))
+enter-seek-requires t c κs = (omega (arith, c .before .before .before .before .before .before .before .before .before .before .pre .0), (c .before .before .before .before .before .before .before .before .before .before .pre .1 .0, c .before .before .before .before .before .before .before .before .before .before .pre .1 .1))
 
 enter-returns-2 : (t : ℕ) → enter-lts.Need-returns-2 (
   wide8-reads.Asked,
@@ -215,7 +215,7 @@ enter-returns-2 : (t : ℕ) → enter-lts.Need-returns-2 (
   seek-below t,
   seek.Post,
 ) (enter-at t) enter.Post
-enter-returns-2 t c = c .seek .ensures ∙ ap answerOf (enter-live _ (repAt (c .before .before .before .before .before .before .before .before .before .before .args .table .now)) _ _ _ (apartBy (repAt (c .before .before .before .before .before .before .before .before .before .before .args .table .now)) (differencesOf (statementsFrom (c .before .before .before .before .before .before .before .before .before .before .args .kinds .now) (c .before .before .before .before .before .before .before .before .before .before .args .lefts .now) (c .before .before .before .before .before .before .before .before .before .before .args .rights .now) (c .before .before .before .before .before .before .before .before .before .before .args .statements)))) _ _ _ _ _ _ _ _ _ _ _ _ (c .before .before .before .before .before .before .before .before .before .wide8 .ensures) (c .before .before .before .before .before .before .before .wide82 .ensures) (c .before .before .before .before .before .wide83 .ensures) (c .before .before .before .before .read .ensures) (c .before .before .all-pass .ensures) (not-false _ (c .before .if1 .left)))
+enter-returns-2 t c = c .seek .ensures ∙ ap answerOf (enter-live _ (repAt (c .before .before .before .before .before .before .before .before .before .before .before .args .table .now)) _ _ _ (apartBy (repAt (c .before .before .before .before .before .before .before .before .before .before .before .args .table .now)) (differencesOf (statementsFrom (c .before .before .before .before .before .before .before .before .before .before .before .args .kinds .now) (c .before .before .before .before .before .before .before .before .before .before .before .args .lefts .now) (c .before .before .before .before .before .before .before .before .before .before .before .args .rights .now) (c .before .before .before .before .before .before .before .before .before .before .before .args .statements)))) _ _ _ _ _ _ _ _ _ _ _ _ (c .before .before .before .before .before .before .before .before .before .before .wide8 .ensures) (c .before .before .before .before .before .before .before .before .wide82 .ensures) (c .before .before .before .before .before .before .wide83 .ensures) (c .before .before .before .before .before .read .ensures) (c .before .before .before .all-pass .ensures) (not-false _ (c .before .before .if1 .left)))
 
 abbrev seek-Inv-loop : seek-lts.InvT-loop
 seek-Inv-loop symbols counts args rows kinds lefts rights statements table first next shapes heads arities subs patterns levels order ends signs firsts seconds literals variables from k chosen values free alone i₀ i =

@@ -11,18 +11,18 @@ use Rattle.search.proofs.hunt.start.Tie as tie
 link-requires : tie.Need-link-requires
 link-requires c κs = search needs
 
-unset-requires : tie.Need-unset-requires
-unset-requires c κs = search needs
-
 unread-requires : tie.Need-unread-requires
 unread-requires c κs = search needs
 
+unset-requires : tie.Need-unset-requires
+unset-requires c κs = search needs
+
 enter-requires : tie.Need-enter-requires
-enter-requires c κs = (ready-hunting (c .before .before .before .before .before .before .pre) (c .before .before .before .before .before .link .ensures), (omega arith, chosen-start _ (c .before .unset .ensures)))
+enter-requires c κs = (ready-hunting (c .before .before .before .before .before .before .before .pre) (c .before .before .before .before .before .before .link .ensures), (omega arith, chosen-start _ (c .before .unset .ensures)))
 
 returns : tie.Need-returns
-returns c = c .enter .ensures ∙ ap answerOf (start-enter _ _ _ _ _ _ (c .before .before .unset .ensures) (c .before .unread .ensures))
+returns c = c .enter .ensures ∙ ap answerOf (start-enter _ _ _ _ _ _ (c .before .before .unset .ensures) (c .before .before .before .before .before .before .unread .ensures))
 
 pub start-spec : {M : Type 1} → statement M
 start-spec =
-    tie.close (tie.spec link-requires unset-requires unread-requires enter-requires returns)
+    tie.close (tie.spec link-requires unread-requires unset-requires enter-requires returns)
