@@ -8,3 +8,4 @@ pub mod Bridge
 pub mod Next
 pub mod Onward
 pub mod Finding
+pub mod Controls
