@@ -28,7 +28,7 @@ use Rattle.meaning.proofs.Prefix.{stages-next}
 use Rattle.meaning.proofs.Pruned.{fails, startBox}
 use Rattle.meaning.proofs.Due.{due, deadNow}
 use Rattle.plan.specs.Planning.{upTo, Arranged}
-use Rattle.search.specs.Reading.{readOf}
+use Rattle.values.specs.Reading.{readOf}
 use Rattle.search.specs.Hunting.{stageOf, deadOf, tryEach, enterOf, attemptOf, huntOf, enterFrom, startOf, aloneOf, rowsOf}
 
 abbrev pub Alike : List ℕ → List ℕ → Type 0

@@ -41,7 +41,7 @@ use Rattle.plan.proofs.Levels.{ps-length, variables-few}
 use Rattle.plan.proofs.Order.{up-few}
 use Rattle.plan.proofs.Freed.{freed-first, never-none}
 use Rattle.search.specs.declared.Reply.{Reply}
-use Rattle.search.specs.Reading.{Listed}
+use Rattle.values.specs.Reading.{Listed}
 use Rattle.search.specs.Hunting.{stageOf, deadOf, enterFrom, rowsOf, answerOf, Planned, Ready}
 use Rattle.search.specs.Finding.{foundBy, laterBy, foundOf, nextOf, isClear, Futile, unfitReply, FindsIn, fits, unfits, NextIn, next-fits, next-unfits}
 use Rattle.search.proofs.Bridge.{order-front, hunt-free}

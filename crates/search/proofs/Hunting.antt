@@ -29,8 +29,8 @@ use Rattle.meaning.proofs.Pruned.{fails}
 use Rattle.meaning.proofs.Due.{due}
 use Rattle.search.specs.declared.Kind.the-variants.{Breach}
 use Rattle.search.specs.declared.Reply.{Reply}
-use Rattle.search.specs.Chains.{Chained}
-use Rattle.search.specs.Reading.{Listed, readOf}
+use Rattle.values.specs.Chains.{Chained}
+use Rattle.values.specs.Reading.{Listed, readOf}
 use Rattle.search.specs.Hunting.{stageOf, deadOf, tryEach, enterOf, attemptOf, huntOf, enterFrom, startOf, aloneOf, rowsOf, NextOwn, answerOf, isBreach, Planned, Ready, Hunting, Chosen}
 
 pub breach-answer : (k : ℕ) (chosen : List ℕ) → k ≤ 4 → Chosen k chosen → _≡_ {A = Reply} (record { kind = Breach k; places = chosen }) (answerOf (found (take k chosen)))

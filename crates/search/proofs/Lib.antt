@@ -1,7 +1,4 @@
 -- The root of the laws.
-pub mod Chaining
-pub mod Comparing
-pub mod Reading
 pub mod Testing
 pub mod Hunting
 pub mod Bridge

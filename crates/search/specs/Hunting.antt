@@ -23,8 +23,8 @@ use Rattle.plan.specs.Planning.{RuleFit}
 use Rattle.search.specs.declared.Kind.{Kind}
 use Rattle.search.specs.declared.Kind.the-variants.{Breach, Clear, Unfit}
 use Rattle.search.specs.declared.Reply.{Reply}
-use Rattle.search.specs.Chains.{LedgerFit}
-use Rattle.search.specs.Reading.{Listed, readOf}
+use Rattle.values.specs.Chains.{LedgerFit}
+use Rattle.values.specs.Reading.{Listed, readOf}
 use Rattle.search.specs.Testing.{Sided, Tested}
 
 unfoldable pub stageOf : List Row → (ℕ → ℕ) → List Pattern → List ℕ → List ℕ → ℕ → List ℕ → List ℕ → List ℕ

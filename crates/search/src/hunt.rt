@@ -147,7 +147,7 @@ fn enter<'a>(
     ensures { λ r. ⌜ r ≡ answerOf (enterFrom (stageOf (rowsFrom (now (symbols .entry)) (now (counts .entry)) (now (args .entry)) rows) (repAt (now (table .entry))) (patternsFrom (now (shapes .entry)) (now (heads .entry)) (now (arities .entry)) (now (subs .entry)) patterns) (now (order .entry)) (now (ends .entry))) (deadOf (apartBy (repAt (now (table .entry))) (differencesOf (statementsFrom (now (kinds .entry)) (now (lefts .entry)) (now (rights .entry)) statements))) (now (levels .entry)) (literalsFrom (now (signs .entry)) (now (firsts .entry)) (now (seconds .entry)) literals)) (rowsOf (repAt (now (table .entry))) rows free from) (variables - k) k chosen (now (values .entry))) ⌝ }
 {
     let j = wide8(k);
-    let v = crate::value::read(
+    let v = values::value::read(
         symbols,
         counts,
         args,
@@ -326,7 +326,7 @@ pub(crate) fn start<'a>(
     requires { ⌜ Ready (now counts) (now args) rows (now lefts) (now rights) statements (now shapes) (now heads) (now arities) (now subs) patterns (now order) (now ends) (now firsts) (now seconds) literals variables ⌝ }
     ensures { λ r. ⌜ r ≡ answerOf (enterFrom (stageOf (rowsFrom (now (symbols .entry)) (now (counts .entry)) (now (args .entry)) rows) (repAt (now (table .entry))) (patternsFrom (now (shapes .entry)) (now (heads .entry)) (now (arities .entry)) (now (subs .entry)) patterns) (now (order .entry)) (now (ends .entry))) (deadOf (apartBy (repAt (now (table .entry))) (differencesOf (statementsFrom (now (kinds .entry)) (now (lefts .entry)) (now (rights .entry)) statements))) (now (levels .entry)) (literalsFrom (now (signs .entry)) (now (firsts .entry)) (now (seconds .entry)) literals)) (rowsOf (repAt (now (table .entry))) rows free from) variables 0 (replicate 4 255) (replicate 64 0)) ⌝ }
 {
-    let chains = crate::chain::link(symbols, rows);
+    let chains = values::chain::link(symbols, rows);
     let values = unread();
     enter(
         symbols,

@@ -10,11 +10,9 @@ use closing::Contradiction;
 use size::long;
 use size::wide8;
 
-mod chain;
 mod hunt;
 mod literal;
 mod size;
-mod value;
 
 // A breach of so many variables, none, or columns that are not well-formed.
 pub enum Kind {

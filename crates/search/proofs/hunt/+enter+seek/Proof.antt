@@ -27,7 +27,7 @@ use Rattle.search.proofs.hunt.own.Reads as own-reads
 use Rattle.search.proofs.hunt.settled.Reads as settled-reads
 use Rattle.search.proofs.literal.all_pass.Reads as all-pass-reads
 use Rattle.search.proofs.size.wide8.Reads as wide8-reads
-use Rattle.search.proofs.value.read.Reads as read-reads
+use Rattle.values.proofs.value.read.Reads as read-reads
 use Rattle.search.proofs.hunt.+enter+seek.{statement}
 use Rattle.search.proofs.hunt.+enter+seek.Tie.{close}
 

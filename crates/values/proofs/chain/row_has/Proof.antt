@@ -1,4 +1,4 @@
--- `search::chain::row_has` meets its contract.
+-- `values::chain::row_has` meets its contract.
 -- Assumes nothing.
 use Prim.Native.Nat.{_≤_, _-_}
 use mathlib.Core.Path.{_≡_, sym, _∙_}
@@ -6,11 +6,11 @@ use mathlib.Core.List.{map}
 use lib.ListN.{getD, take}
 use Rattle.meaning.specs.Equality.{repAt}
 use Rattle.meaning.specs.Columns.{argsAt}
-use Rattle.search.proofs.Comparing.{Comparing, symbol-other, symbol-same, over-lengths, over-start, over-next, over-differs, over-done}
+use Rattle.values.proofs.Comparing.{Comparing, symbol-other, symbol-same, over-lengths, over-start, over-next, over-differs, over-done}
 use borrow.Author.Needs.{needs}
 use native.Mathlib.Omega.{arith}
-use Rattle.search.proofs.chain.row_has.Statement.{statement}
-use Rattle.search.proofs.chain.row_has.Tie as tie
+use Rattle.values.proofs.chain.row_has.Statement.{statement}
+use Rattle.values.proofs.chain.row_has.Tie as tie
 
 abbrev Inv-loop : tie.InvT-loop
 Inv-loop symbols counts args table i symbol count wanted k₀ k = (k ≤ count) × (count ≡ getD counts i 0) × (getD symbols i 0 ≡ symbol) × Comparing (take count wanted) (map (repAt table) (argsAt counts args i)) k

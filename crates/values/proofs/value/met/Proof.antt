@@ -1,13 +1,13 @@
--- `search::value::met` meets its contract.
+-- `values::value::met` meets its contract.
 -- Assumes nothing.
 use Prim.Native.Nat.{_-_}
 use lib.ListN.{take}
 use Rattle.meaning.specs.Columns.{patternsFrom}
-use Rattle.search.proofs.Reading.{Meeting, meeting-start, meeting-next, meeting-found, meeting-ends, pattern-row, rule-shaped}
+use Rattle.values.proofs.Reading.{Meeting, meeting-start, meeting-next, meeting-found, meeting-ends, pattern-row, rule-shaped}
 use borrow.Author.Needs.{needs}
 use native.Mathlib.Omega.{arith}
-use Rattle.search.proofs.value.met.Statement.{statement}
-use Rattle.search.proofs.value.met.Tie as tie
+use Rattle.values.proofs.value.met.Statement.{statement}
+use Rattle.values.proofs.value.met.Tie as tie
 
 abbrev Inv-loop : tie.InvT-loop
 Inv-loop shapes heads arities subs patterns order read values symbol count wanted other j₀ j = Meeting (patternsFrom shapes heads arities subs patterns) symbol (take count wanted) values other order read j

@@ -14,7 +14,7 @@ use Rattle.meaning.specs.Rules.{Pattern}
 use Rattle.meaning.specs.Values.{patternAt, held, met, Numbering, numberOf, number}
 use Rattle.columns.specs.Fit.{PatternAt}
 use Rattle.plan.specs.Planning.{RuleFit}
-use Rattle.search.specs.Chains.{LedgerFit}
+use Rattle.values.specs.Chains.{LedgerFit}
 
 -- pattern row q can be compared with so many values
 pub record Shaped (shapes heads arities subs : List ℕ) (q count : ℕ) : Type 0 where

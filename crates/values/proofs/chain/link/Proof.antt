@@ -1,14 +1,14 @@
--- `search::chain::link` meets its contract.
+-- `values::chain::link` meets its contract.
 -- Assumes nothing.
 use Prim.Native.Nat.{ℕ, _≤_}
 use mathlib.Core.Path.{_≡_, ap, _∙_}
 use lib.ListN.{length, length-set, length-replicate}
-use Rattle.search.specs.Chains.{Linked}
-use Rattle.search.proofs.Chaining.{linked-start, linked-back}
+use Rattle.values.specs.Chains.{Linked}
+use Rattle.values.proofs.Chaining.{linked-start, linked-back}
 use borrow.Author.Needs.{needs}
 use native.Mathlib.Omega.{arith}
-use Rattle.search.proofs.chain.link.Statement.{statement}
-use Rattle.search.proofs.chain.link.Tie as tie
+use Rattle.values.proofs.chain.link.Statement.{statement}
+use Rattle.values.proofs.chain.link.Tie as tie
 
 abbrev Inv-loop : tie.InvT-loop
 Inv-loop symbols rows first₀ next₀ i₀ first next i = (i ≤ rows) × (length first ≡ 256) × (length next ≡ 255) × Linked symbols rows i first next

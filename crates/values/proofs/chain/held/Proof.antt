@@ -1,13 +1,13 @@
--- `search::chain::held` meets its contract.
+-- `values::chain::held` meets its contract.
 -- Assumes nothing.
 use Prim.Native.Nat.{_-_}
 use lib.ListN.{take}
 use Rattle.meaning.specs.Equality.{repAt}
-use Rattle.search.proofs.Chaining.{Seeking, seeking-start, seeking-next, seeking-found, seeking-ends}
+use Rattle.values.proofs.Chaining.{Seeking, seeking-start, seeking-next, seeking-found, seeking-ends}
 use borrow.Author.Needs.{needs}
 use native.Mathlib.Omega.{arith}
-use Rattle.search.proofs.chain.held.Statement.{statement}
-use Rattle.search.proofs.chain.held.Tie as tie
+use Rattle.values.proofs.chain.held.Statement.{statement}
+use Rattle.values.proofs.chain.held.Tie as tie
 
 abbrev Inv-loop : tie.InvT-loop
 Inv-loop symbols counts args rows table first next symbol count wanted i₀ i = Seeking symbols counts args rows (repAt table) symbol (take count wanted) i

@@ -15,7 +15,7 @@ use lib.Seq.{drop-cons, getD-take}
 use Rattle.meaning.specs.ByTable.{sameList}
 use Rattle.meaning.specs.Columns.{argsAt}
 use Rattle.meaning.proofs.Lists.{sameList-true}
-use Rattle.search.specs.Chains.{Lined}
+use Rattle.values.specs.Chains.{Lined}
 use Rattle.columns.proofs.Flat.{arg-at, args-length}
 
 pub record Comparing (l m : List ℕ) (k : ℕ) : Type 0 where

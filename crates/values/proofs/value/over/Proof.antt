@@ -1,4 +1,4 @@
--- `search::value::over` meets its contract.
+-- `values::value::over` meets its contract.
 -- Assumes nothing.
 use Prim.Native.Nat.{_≤_, _-_}
 use mathlib.Core.Path.{_≡_, refl, sym, _∙_}
@@ -6,12 +6,12 @@ use mathlib.Core.List.{map}
 use lib.ListN.{getD, take}
 use Rattle.meaning.specs.Values.{numberAt}
 use Rattle.meaning.specs.Columns.{argsAt}
-use Rattle.search.proofs.Reading.{shaped-lined, over-variable, over-symbol}
-use Rattle.search.proofs.Comparing.{Comparing, symbol-other, symbol-same, over-lengths, over-start, over-next, over-differs, over-done}
+use Rattle.values.proofs.Reading.{shaped-lined, over-variable, over-symbol}
+use Rattle.values.proofs.Comparing.{Comparing, symbol-other, symbol-same, over-lengths, over-start, over-next, over-differs, over-done}
 use borrow.Author.Needs.{needs}
 use native.Mathlib.Omega.{arith}
-use Rattle.search.proofs.value.over.Statement.{statement}
-use Rattle.search.proofs.value.over.Tie as tie
+use Rattle.values.proofs.value.over.Statement.{statement}
+use Rattle.values.proofs.value.over.Tie as tie
 
 abbrev Inv-loop : tie.InvT-loop
 Inv-loop shapes heads arities subs values q symbol count wanted k₀ k = (k ≤ count) × (count ≡ getD arities q 0) × (getD heads q 0 ≡ symbol) × (getD shapes q 0 ≡ 4 → ⊥) × Comparing (take count wanted) (map (numberAt values) (argsAt arities subs q)) k

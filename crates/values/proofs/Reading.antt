@@ -22,9 +22,9 @@ use Rattle.meaning.specs.Columns.{argsAt, patternsFrom}
 use Rattle.meaning.specs.Values.{pattern₀, patternAt, numberAt, argsOf, Numbering, isOver, met, numberOf, step, number}
 use Rattle.columns.proofs.Built.{build-at, patternIn, patterns-build}
 use Rattle.columns.proofs.Flat.{pattern-at-variable, pattern-at-symbol, arg-at, args-length}
-use Rattle.search.specs.Chains.{Lined, Looked}
+use Rattle.values.specs.Chains.{Lined, Looked}
 use Rattle.plan.specs.Planning.{RuleFit}
-use Rattle.search.specs.Reading.{Shaped, Listed, stateOf, lookOf, termOf, readOf}
+use Rattle.values.specs.Reading.{Shaped, Listed, stateOf, lookOf, termOf, readOf}
 
 module _ {shapes heads arities subs : List ℕ} {q count : ℕ} (s : Shaped shapes heads arities subs q count) where
   pub shaped-lined : (getD shapes q 0 ≡ 4 → ⊥) → Lined arities subs q count

@@ -1,24 +1,24 @@
--- `search::value::+term+walk` meets its contract.
+-- `values::value::+term+walk` meets its contract.
 -- Assumes nothing.
 use Prim.Native.Nat.{_+_, _*_, _-_, ℕ, _<_}
 use Rattle.meaning.specs.Equality.{repAt}
-use Rattle.search.proofs.Reading.{term-list, term-variable, term-symbol, term-read, rule-few, rule-earlier, rule-long, walk-end, walk-more}
+use Rattle.values.proofs.Reading.{term-list, term-variable, term-symbol, term-read, rule-few, rule-earlier, rule-long, walk-end, walk-more}
 use borrow.Author.Needs.{needs}
 use native.Mathlib.Omega.{arith}
 use borrow.Fn.Kinds.{In}
 use borrow.Fn.PlainCycle.{Measures, is, falls, and}
-use Rattle.search.proofs.value.term.Reads as term
-use Rattle.search.proofs.value.term.Kinds as term-kinds
-use Rattle.search.proofs.value.+term+walk.Lts-term as term-lts
-use Rattle.search.proofs.value.walk.Reads as walk
-use Rattle.search.proofs.value.walk.Kinds as walk-kinds
-use Rattle.search.proofs.value.+term+walk.Lts-walk as walk-lts
-use Rattle.search.proofs.size.wide.Reads as wide-reads
-use Rattle.search.proofs.size.wide8.Reads as wide8-reads
-use Rattle.search.proofs.value.given.Reads as given-reads
-use Rattle.search.proofs.value.look.Reads as look-reads
-use Rattle.search.proofs.value.+term+walk.{statement}
-use Rattle.search.proofs.value.+term+walk.Tie.{close}
+use Rattle.values.proofs.value.term.Reads as term
+use Rattle.values.proofs.value.term.Kinds as term-kinds
+use Rattle.values.proofs.value.+term+walk.Lts-term as term-lts
+use Rattle.values.proofs.value.walk.Reads as walk
+use Rattle.values.proofs.value.walk.Kinds as walk-kinds
+use Rattle.values.proofs.value.+term+walk.Lts-walk as walk-lts
+use Rattle.values.proofs.size.wide.Reads as wide-reads
+use Rattle.values.proofs.size.wide8.Reads as wide8-reads
+use Rattle.values.proofs.value.given.Reads as given-reads
+use Rattle.values.proofs.value.look.Reads as look-reads
+use Rattle.values.proofs.value.+term+walk.{statement}
+use Rattle.values.proofs.value.+term+walk.Tie.{close}
 
 abbrev μ-term : Measures 1 term-kinds.ps ℕ
 μ-term κs a = a .1 .1 .1 .1 .1 .1 .1 .1 .1 .1 .1 .1 .1 .1 .1 .1 .1 .0 * 8 + 5

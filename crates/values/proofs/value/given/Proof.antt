@@ -1,8 +1,8 @@
--- `search::value::given` meets its contract.
+-- `values::value::given` meets its contract.
 -- Assumes nothing.
 use borrow.Author.Needs.{needs}
-use Rattle.search.proofs.value.given.Statement.{statement}
-use Rattle.search.proofs.value.given.Tie as tie
+use Rattle.values.proofs.value.given.Statement.{statement}
+use Rattle.values.proofs.value.given.Tie as tie
 
 mul-wide : tie.Need-mul-wide
 mul-wide c = search needs

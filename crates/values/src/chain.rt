@@ -8,16 +8,16 @@ ghost use lib.ListN.{getD, take, replicate};
 ghost use Rattle.meaning.specs.Equality.{repAt};
 ghost use Rattle.meaning.specs.ByTable.{sameList};
 ghost use Rattle.meaning.specs.Columns.{argsAt, rowsFrom};
-ghost use Rattle.search.specs.Chains.{Chained, Lined, Looked, LedgerFit};
+ghost use Rattle.values.specs.Chains.{Chained, Lined, Looked, LedgerFit};
 use crate::size::long;
 use crate::size::wide;
 use crate::size::wide8;
 
 // The first row of each chain, and the next row after each; 255 ends a chain. A chain holds the rows whose symbols leave one
 // remainder by 256, rising.
-pub(crate) struct Chains {
-    pub(crate) first: [u16; 256],
-    pub(crate) next: [u16; 255],
+pub struct Chains {
+    pub first: [u16; 256],
+    pub next: [u16; 255],
 }
 
 fn ended() -> Chains
@@ -36,7 +36,7 @@ fn bucket(symbol: u16) -> usize
     wide(b)
 }
 
-pub(crate) fn link(symbols: &[u16; 255], rows: usize) -> Chains
+pub fn link(symbols: &[u16; 255], rows: usize) -> Chains
     requires { ⌜ rows ≤ 255 ⌝ }
     ensures { λ r. ⌜ Chained (now (symbols .entry)) rows (r .first) (r .next) ⌝ }
 {

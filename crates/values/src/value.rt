@@ -6,9 +6,9 @@ ghost use lib.ListN.{getD, take, drop};
 ghost use Rattle.meaning.specs.Equality.{repAt};
 ghost use Rattle.meaning.specs.Columns.{argsAt, rowsFrom, patternOf, patternsFrom};
 ghost use Rattle.meaning.specs.Values.{argsOf, isOver, met as metBy};
-ghost use Rattle.search.specs.Chains.{LedgerFit};
+ghost use Rattle.values.specs.Chains.{LedgerFit};
 ghost use Rattle.plan.specs.Planning.{RuleFit};
-ghost use Rattle.search.specs.Reading.{Shaped, Listed, Asked, lookOf, termOf, readOf};
+ghost use Rattle.values.specs.Reading.{Shaped, Listed, Asked, lookOf, termOf, readOf};
 use crate::size::long;
 use crate::size::wide;
 use crate::size::wide8;
@@ -312,8 +312,57 @@ fn walk<'a>(
     )
 }
 
+// The value of a row that has not been read.
+fn value_at<'a>(
+    symbols: &'a [u16; 255],
+    counts: &'a [u8; 255],
+    args: &'a [u16; 1020],
+    rows: usize,
+    table: &'a [u16; 255],
+    first: &'a [u16; 256],
+    next: &'a [u16; 255],
+    shapes: &'a [u8; 64],
+    heads: &'a [u16; 64],
+    arities: &'a [u8; 64],
+    subs: &'a [u16; 256],
+    patterns: usize,
+    order: &'a [u8; 64],
+    read: usize,
+    chosen: [u16; 4],
+    values: &'a [u32; 64],
+    row: usize,
+) -> u32
+    requires { ⌜ Asked (now symbols) (now counts) (now args) rows (now first) (now next) (now shapes) (now heads) (now arities) (now subs) patterns (now order) read ⌝ }
+    requires { ⌜ row < patterns ⌝ }
+    ensures { λ r. ⌜ r ≡ termOf (rowsFrom (now (symbols .entry)) (now (counts .entry)) (now (args .entry)) rows) (repAt (now (table .entry))) (patternsFrom (now (shapes .entry)) (now (heads .entry)) (now (arities .entry)) (now (subs .entry)) patterns) (now (order .entry)) chosen (now (values .entry)) read row row ⌝ }
+{
+    if shapes[row] == 4 {
+        return given(heads, row, chosen);
+    }
+    term(
+        symbols,
+        counts,
+        args,
+        rows,
+        table,
+        first,
+        next,
+        shapes,
+        heads,
+        arities,
+        subs,
+        patterns,
+        order,
+        read,
+        chosen,
+        values,
+        row,
+        row,
+    )
+}
+
 // The rows from one place of the order up to another are read.
-pub(crate) fn read<'a>(
+pub fn read<'a>(
     symbols: &'a [u16; 255],
     counts: &'a [u8; 255],
     args: &'a [u16; 1020],
@@ -340,7 +389,7 @@ pub(crate) fn read<'a>(
     let mut j = from;
     while j < to {
         let row = wide8(order[j]);
-        values[row] = term(
+        values[row] = value_at(
             symbols,
             counts,
             args,
@@ -357,7 +406,6 @@ pub(crate) fn read<'a>(
             j,
             chosen,
             &values,
-            row,
             row,
         );
         j += 1;

@@ -1,11 +1,11 @@
--- `search::value::look` meets its contract.
+-- `values::value::look` meets its contract.
 -- Assumes nothing.
 use Rattle.meaning.specs.Equality.{repAt}
-use Rattle.search.proofs.Reading.{look-held, look-met, rule-few}
+use Rattle.values.proofs.Reading.{look-held, look-met, rule-few}
 use native.Mathlib.Omega.{arith}
 use borrow.Author.Needs.{needs}
-use Rattle.search.proofs.value.look.Statement.{statement}
-use Rattle.search.proofs.value.look.Tie as tie
+use Rattle.values.proofs.value.look.Statement.{statement}
+use Rattle.values.proofs.value.look.Tie as tie
 
 mul-f : tie.Need-mul-f
 mul-f c = search needs
