@@ -22,6 +22,12 @@
 /* The first breach of the text's rule. On a breach rows[0..3] are the variables' rows, unused places 255; else no row is written. */
 uint64_t checker_find(const uint8_t *text, size_t length, uint16_t rows[4]);
 
+/* The next breach: rows[0..3] are an assignment, of which as many places are read as the rule has variables, whatever rows they name. On a
+ * breach they become the first one after it that is made of representatives (rows that are the same as no lower one); else no row is
+ * written. Beginning with the first breach and going on until kind 9 gives every such breach once, in order. Each call
+ * reads the text and closes its context anew. */
+uint64_t checker_next(const uint8_t *text, size_t length, uint16_t rows[4]);
+
 /* The normal text of the text's context, into the first bytes of the lent space. On a refusal no byte is written; 10 says that the
  * space is too short. No normal text is longer than 7,898 bytes. */
 uint64_t checker_normalise(const uint8_t *text, size_t length, uint8_t *lent, size_t space);

@@ -1,7 +1,8 @@
 //! The library's C boundary, said once: its functions, and how a reply is packed in a number.
 //!
 //! A packed reply is kind + 256 * number + 65,536 * place + 2^32 * offset. The finder's kinds are BREACH (number: how many
-//! variables; the rows are written, unused places 255), NONE and REFUSED (number and place); it writes rows on a breach only.
+//! variables; the rows are written, unused places 255), NONE and REFUSED (number and place); it writes rows on a breach only, and
+//! so does the function that gives the next breach after some rows.
 //! The normaliser's are WRITTEN (kind + 256 * bytes) and REFUSED; a refusal writes nothing.
 
 pub const WRITTEN: u64 = 0;
@@ -15,11 +16,17 @@ pub type Rows = [u16; 4];
 
 extern "C" {
     fn checker_find(text: *const u8, length: usize, rows: *mut u16) -> u64;
+    fn checker_next(text: *const u8, length: usize, rows: *mut u16) -> u64;
     fn checker_normalise(text: *const u8, length: usize, lent: *mut u8, space: usize) -> u64;
 }
 
 pub fn find(text: &[u8], rows: &mut Rows) -> u64 {
     unsafe { checker_find(text.as_ptr(), text.len(), rows.as_mut_ptr()) }
+}
+
+/// The rows are an assignment; on a breach the next one after it takes their place.
+pub fn next(text: &[u8], rows: &mut Rows) -> u64 {
+    unsafe { checker_next(text.as_ptr(), text.len(), rows.as_mut_ptr()) }
 }
 
 pub fn normalise(text: &[u8], lent: &mut [u8]) -> u64 {

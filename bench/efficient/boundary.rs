@@ -11,7 +11,18 @@ use efficient::Found;
 /// `bytes` has `length` bytes.
 #[no_mangle]
 pub unsafe extern "C" fn checker_find(bytes: *const u8, length: usize, rows: &mut Rows) -> u64 {
-    match efficient::find(std::slice::from_raw_parts(bytes, length)) {
+    packed(efficient::find(std::slice::from_raw_parts(bytes, length)), rows)
+}
+
+/// # Safety
+/// `bytes` has `length` bytes.
+#[no_mangle]
+pub unsafe extern "C" fn checker_next(bytes: *const u8, length: usize, rows: &mut Rows) -> u64 {
+    packed(efficient::next(std::slice::from_raw_parts(bytes, length), *rows), rows)
+}
+
+fn packed(found: Found, rows: &mut Rows) -> u64 {
+    match found {
         Found::None => NONE,
         Found::Refused(why) => refused(why.number, why.place as usize),
         Found::Breach(variables, found) => {

@@ -32,6 +32,17 @@ pub fn find(bytes: &[u8]) -> Found {
     }
 }
 
+/// The first breach of representatives after an assignment.
+pub fn next(bytes: &[u8], after: [u16; 4]) -> Found {
+    match judge(bytes) {
+        Err(why) => Found::Refused(why),
+        Ok((text, representatives)) => {
+            let model = Model::of(&text, representatives);
+            reply(&text, plain::next(&model, &text, after))
+        }
+    }
+}
+
 /// The representatives of a text that the finder does not refuse.
 pub fn judge(bytes: &[u8]) -> Result<(Text, Vec<u16>), Refusal> {
     let text = read(bytes)?;

@@ -1,6 +1,7 @@
 //! One text through the library, the programs and the reference: what differs, in words.
 
 use crate::boundary::{self, words, Rows};
+use crate::listing;
 use crate::programs::Programs;
 use crate::random::Random;
 use reference::breach::{first_breach, first_breach_anew};
@@ -9,7 +10,7 @@ use reference::{find, find_prints, normalise, normalise_prints, Found};
 
 /// What stands in a lent byte, and in a row's place, before a call.
 const WATCH: u8 = 0xA5;
-const WATCHED_ROWS: Rows = [0xA5A5; 4];
+pub const WATCHED_ROWS: Rows = [0xA5A5; 4];
 /// Bytes watched on either side of the lent space.
 const MARGIN: usize = 64;
 /// Lent spaces are tried this much shorter and longer than the need.
@@ -45,7 +46,9 @@ pub fn differences(case: &Case, programs: &Programs) -> Vec<String> {
     if case.by_programs {
         said.extend(programs.difference("find", &case.text, &find_prints(&case.text)));
         said.extend(programs.difference("normalise", &case.text, &normalise_prints(&case.text)));
+        said.extend(listing::program_difference(&case.text, programs));
     }
+    said.extend(listing::differences(&case.text));
     if case.anew {
         said.extend(reference_difference(&case.text));
     }
@@ -78,14 +81,14 @@ fn finder_difference(text: &[u8]) -> Option<String> {
 }
 
 /// The rows in words, where they were written.
-fn changed(rows: &Rows) -> String {
+pub fn changed(rows: &Rows) -> String {
     if *rows == WATCHED_ROWS {
         return String::new();
     }
     format!(" with rows {:?}", rows)
 }
 
-fn packed(refused: &Refusal) -> u64 {
+pub fn packed(refused: &Refusal) -> u64 {
     boundary::refused(refused.number, refused.place)
 }
 

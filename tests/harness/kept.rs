@@ -1,6 +1,6 @@
-//! Texts that are kept with their replies: NAME.in, and what the programs print for it, NAME.find and NAME.norm.
+//! Texts that are kept with their replies: NAME.in, and what the programs print for it, NAME.find, NAME.norm and NAME.all.
 
-use reference::{find_prints, normalise_prints};
+use reference::{breaches_prints, find_prints, normalise_prints};
 use std::fs;
 use std::path::{Path, PathBuf};
 
@@ -9,6 +9,7 @@ pub struct Kept {
     pub text: Vec<u8>,
     find: Vec<u8>,
     norm: Vec<u8>,
+    all: Vec<u8>,
 }
 
 pub fn kept_texts(folder: &str) -> Vec<Kept> {
@@ -22,7 +23,8 @@ pub fn kept_texts(folder: &str) -> Vec<Kept> {
 fn kept_text(path: &Path) -> Kept {
     let read = |path: &Path| fs::read(path).unwrap_or_else(|failure| panic!("{}: {}", path.display(), failure));
     let name = path.file_stem().expect("a name").to_string_lossy().into_owned();
-    Kept { name, text: read(path), find: read(&path.with_extension("find")), norm: read(&path.with_extension("norm")) }
+    let reply = |extension: &str| read(&path.with_extension(extension));
+    Kept { name, text: read(path), find: reply("find"), norm: reply("norm"), all: reply("all") }
 }
 
 impl Kept {
@@ -34,6 +36,9 @@ impl Kept {
         }
         if normalise_prints(&self.text) != self.norm {
             said.push("the reference normalises to something else than was kept".to_string());
+        }
+        if breaches_prints(&self.text) != self.all {
+            said.push("the reference lists something else than was kept".to_string());
         }
         said
     }
@@ -47,4 +52,5 @@ pub fn keep(folder: &str, name: &str, text: &[u8]) {
     write("in", text);
     write("find", &find_prints(text));
     write("norm", &normalise_prints(text));
+    write("all", &breaches_prints(text));
 }

@@ -19,6 +19,7 @@ mod damage;
 mod draft;
 mod generate;
 mod kept;
+mod listing;
 mod programs;
 mod random;
 mod shrink;
@@ -106,6 +107,7 @@ impl Run {
             println!("text {} of seed {}, aimed at {:?}", index, self.options.seed, aim_of(index));
             println!("{}", String::from_utf8_lossy(&text));
             println!("find: {}", String::from_utf8_lossy(&reference::find_prints(&text)));
+            println!("breaches: {}", String::from_utf8_lossy(&reference::breaches_prints(&text)));
             println!("normalise: {}", String::from_utf8_lossy(&reference::normalise_prints(&text)));
         }
     }

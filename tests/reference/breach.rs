@@ -112,6 +112,14 @@ pub fn first_breach(text: &Text) -> Option<Vec<usize>> {
     assignments(text).find(|assignment| terms.holding(text, assignment).into_iter().all(|held| held))
 }
 
+/// Every breach whose rows are all representatives, in order.
+pub fn breaches(text: &Text) -> impl Iterator<Item = Vec<usize>> + '_ {
+    let lowest = close(&text.rows, &text.equations);
+    let mut terms = Terms::of(text);
+    let representatives = assignments(text).filter(move |rows| rows.iter().all(|row| lowest[*row] == *row));
+    representatives.filter(move |rows| terms.holding(text, rows).into_iter().all(|held| held))
+}
+
 /// The same, with the rows and the instances closed together from nothing under each assignment. Slow; it tries `Terms`.
 pub fn first_breach_anew(text: &Text) -> Option<Vec<usize>> {
     assignments(text).find(|assignment| breach_anew(text, assignment))

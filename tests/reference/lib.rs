@@ -6,9 +6,9 @@ pub mod closing;
 pub mod normal;
 pub mod text;
 
-use breach::first_breach;
+use breach::{breaches, first_breach, variables};
 use closing::{close, first_clash};
-use text::{read, refusal, Refusal};
+use text::{read, refusal, Refusal, Text};
 
 /// What the finder replies.
 #[derive(Clone, Debug, PartialEq)]
@@ -26,8 +26,12 @@ pub fn find(bytes: &[u8]) -> Found {
     }
 }
 
-/// After the faulty lines 8, then 9.
 fn judge(bytes: &[u8]) -> Result<Option<Vec<usize>>, Refusal> {
+    Ok(first_breach(&rule(bytes)?))
+}
+
+/// A text with a rule. After the faulty lines 8, then 9.
+fn rule(bytes: &[u8]) -> Result<Text, Refusal> {
     let text = read(bytes)?;
     if text.literals.is_empty() {
         return Err(refusal(8, 0));
@@ -35,7 +39,19 @@ fn judge(bytes: &[u8]) -> Result<Option<Vec<usize>>, Refusal> {
     let class = close(&text.rows, &text.equations);
     match first_clash(&class, &text.differences) {
         Some(ordinal) => Err(refusal(9, ordinal)),
-        None => Ok(first_breach(&text)),
+        None => Ok(text),
+    }
+}
+
+/// The first breach of representatives after an assignment, of which as many places are read as there are variables.
+pub fn next_after(bytes: &[u8], after: &[usize]) -> Found {
+    match rule(bytes) {
+        Err(refused) => Found::Refused(refused),
+        Ok(text) => {
+            let given = &after[..variables(&text.patterns)];
+            let next = breaches(&text).find(|rows| &rows[..] > given);
+            next.map_or(Found::None, Found::Breach)
+        }
     }
 }
 
@@ -70,6 +86,20 @@ pub fn normalise_prints(input: &[u8]) -> Vec<u8> {
         return refusal_line(&refusal(11, 0));
     }
     normalise(input, usize::MAX).unwrap_or_else(|refused| refusal_line(&refused))
+}
+
+/// What the program prints that lists every breach of representatives.
+pub fn breaches_prints(input: &[u8]) -> Vec<u8> {
+    if input.len() > INPUT_LIMIT {
+        return refusal_line(&refusal(11, 0));
+    }
+    match rule(input) {
+        Err(refused) => refusal_line(&refused),
+        Ok(text) => {
+            let lines = breaches(&text).map(Found::Breach).chain([Found::None]);
+            lines.flat_map(|found| found_line(&found)).collect()
+        }
+    }
 }
 
 pub fn found_line(found: &Found) -> Vec<u8> {

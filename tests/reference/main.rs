@@ -1,4 +1,4 @@
-//! reference find | normalise     a text on standard input, the program's reply on standard output
+//! reference find | normalise | breaches     a text on standard input, the program's reply on standard output
 
 use std::io::{Read, Write};
 
@@ -8,7 +8,8 @@ fn main() {
     let reply = match std::env::args().nth(1).as_deref() {
         Some("find") => reference::find_prints(&input),
         Some("normalise") => reference::normalise_prints(&input),
-        _ => panic!("reference find | normalise"),
+        Some("breaches") => reference::breaches_prints(&input),
+        _ => panic!("reference find | normalise | breaches"),
     };
     std::io::stdout().write_all(&reply).expect("standard output");
 }

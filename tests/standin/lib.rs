@@ -1,17 +1,29 @@
-//! The two functions of the C boundary over the reference: what stands in for the library, rightly or, after an edit, wrongly.
+//! The functions of the C boundary over the reference: what stands in for the library, rightly or, after an edit, wrongly.
 
 #[path = "../boundary.rs"]
 #[allow(dead_code)]
 mod boundary;
 
 use boundary::{breach, refused, written, Rows, NONE};
-use reference::{find, normalise, Found};
+use reference::{find, next_after, normalise, Found};
 
 /// # Safety
 /// `text` has `length` bytes.
 #[no_mangle]
 pub unsafe extern "C" fn checker_find(text: *const u8, length: usize, rows: &mut Rows) -> u64 {
-    match find(std::slice::from_raw_parts(text, length)) {
+    packed(find(std::slice::from_raw_parts(text, length)), rows)
+}
+
+/// # Safety
+/// `text` has `length` bytes.
+#[no_mangle]
+pub unsafe extern "C" fn checker_next(text: *const u8, length: usize, rows: &mut Rows) -> u64 {
+    let after = rows.map(usize::from);
+    packed(next_after(std::slice::from_raw_parts(text, length), &after), rows)
+}
+
+fn packed(found: Found, rows: &mut Rows) -> u64 {
+    match found {
         Found::None => NONE,
         Found::Refused(why) => refused(why.number, why.place),
         Found::Breach(found) => {

@@ -1,5 +1,6 @@
 -- What is packed is the reply, and a reply is packed in one way only.
 --     answers-found, answers-one      the finder's number and rows are those of the reply, and no other are
+--     proceeds-found, proceeds-one    and so are those after an assignment
 --     wrote-small                     a normal text's length is packed below 2 to the 64th
 --     settles-written, settles-one    the normaliser's number is that of its answer, and no other is
 --     pack-breach .. pack-unwritten   what each way out of the packing returns
@@ -28,13 +29,15 @@ use Rattle.meaning.proofs.Bounds.{normal-bytes}
 use Rattle.meaning.proofs.Kept.{ContextFits, read-kept}
 use Rattle.meaning.proofs.Taken.{read-formed}
 use Rattle.finder.specs.Claims.{toldBy, toldOf, Finds}
+use Rattle.finder.specs.Following.{Follows}
+use Rattle.finder.proofs.Following.{followed-one}
 use Rattle.finder.specs.declared.Outcome.{Outcome}
 use Rattle.finder.specs.declared.Outcome.the-variants as O
 use Rattle.finder.specs.declared.Reply.{Reply}
 use Rattle.normaliser.specs.Claims.{writtenBy}
 use Rattle.normaliser.specs.declared.Written.{Written}
 use Rattle.normaliser.specs.declared.Written.the-variants as W
-use Rattle.boundary.specs.Claims.{rowsAfter, Answers, Settles}
+use Rattle.boundary.specs.Claims.{rowsAfter, Answers, Proceeds, Settles}
 use Rattle.boundary.specs.Packs.{packedBy, packedOutcome, handedBy, Small, packedAnswer}
 
 -- ---- the finder
@@ -79,6 +82,21 @@ answers-found text r w rows after h number e =
 pub answers-one : (text rows : List ℕ) (m n : ℕ) (s t : List ℕ) → Answers text rows m s → Answers text rows n t → (m ≡ n) × (s ≡ t)
 answers-one text rows m n s t p q =
     let e : p .reply ≡ q .reply = replies-one narrow text (p .reply) (q .reply) (p .replies) (q .replies) in
+    (p .packed ∙ ap packedReply e ∙ sym (q .packed), p .handed ∙ ap (λ (r : M.Reply). rowsAfter r rows) e ∙ sym (q .handed))
+
+pub proceeds-found : (text rows : List ℕ) (r : Reply) → Follows text rows r → (after : List ℕ) → after ≡ handedBy (r .outcome) (r .places) rows
+    → (number : ℕ) → number ≡ packedOutcome (r .outcome) → Proceeds text rows number after
+proceeds-found text rows r w after h number e =
+    record {
+      reply = w .reply;
+      replies = w .replies;
+      packed = e ∙ told-packed (r .outcome) (w .reply) (w .told);
+      handed = h ∙ ap (λ (l : List ℕ). handedBy (r .outcome) l rows) (w .places) ∙ told-handed (r .outcome) (w .reply) (w .told) rows;
+    }
+
+pub proceeds-one : (text rows : List ℕ) (m n : ℕ) (s t : List ℕ) → Proceeds text rows m s → Proceeds text rows n t → (m ≡ n) × (s ≡ t)
+proceeds-one text rows m n s t p q =
+    let e : p .reply ≡ q .reply = followed-one text rows (p .reply) (q .reply) (p .replies) (q .replies) in
     (p .packed ∙ ap packedReply e ∙ sym (q .packed), p .handed ∙ ap (λ (r : M.Reply). rowsAfter r rows) e ∙ sym (q .handed))
 
 -- ---- the normaliser
@@ -145,4 +163,4 @@ pack-unwritten r x e m h = h ∙ sym (ap packedAnswer e)
 pub wrote-fits : (r : Written) (n : ℕ) → Small r → r ≡ W.Wrote n → Fits w64 (256 * n)
 wrote-fits r n h e = omega (arith, h .few n e)
 
-pub ruleset mine = (needs, answers-found, wrote-small, settles-written, pack-breach, pack-refused, pack-wrote, pack-unwritten, wrote-fits)
+pub ruleset mine = (needs, answers-found, proceeds-found, wrote-small, settles-written, pack-breach, pack-refused, pack-wrote, pack-unwritten, wrote-fits)

@@ -3,7 +3,7 @@ use finder::Outcome;
 use ledger::Refusal;
 use normaliser::Written;
 ghost use mathlib.Core.Path.{_≡_};
-ghost use Rattle.boundary.specs.Claims.{Answers, Settles};
+ghost use Rattle.boundary.specs.Claims.{Answers, Proceeds, Settles};
 ghost use Rattle.boundary.specs.Packs.{packedBy, packedOutcome, handedBy, Small, packedAnswer};
 
 // Kind 10, with the number and the place above it.
@@ -42,6 +42,19 @@ pub extern "C" fn checker_find(text: &[u8], rows: &mut [u16; 4]) -> u64
     ensures answers { λ r. ⌜ Answers (now (text .entry)) (now (rows .entry)) r (now (rows .exit)) ⌝ }
 {
     let reply = finder::find(text);
+    let outcome = reply.outcome;
+    let places = reply.places;
+    hand(outcome, places, rows);
+    pack_outcome(outcome)
+}
+
+// uint64_t checker_next(const uint8_t *text, size_t length, uint16_t rows[4])
+#[no_mangle]
+pub extern "C" fn checker_next(text: &[u8], rows: &mut [u16; 4]) -> u64
+    ensures proceeds { λ r. ⌜ Proceeds (now (text .entry)) (now (rows .entry)) r (now (rows .exit)) ⌝ }
+{
+    let after = *rows;
+    let reply = finder::next(text, after);
     let outcome = reply.outcome;
     let places = reply.places;
     hand(outcome, places, rows);

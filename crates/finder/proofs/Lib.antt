@@ -1,3 +1,6 @@
 -- The root of the laws.
 pub mod Holding
+pub mod Preparing
 pub mod Judging
+pub mod Following
+pub mod Controls

@@ -5,7 +5,9 @@
 --     Asks               and the clause's are, too
 --     refusedWith, answeredWith   the reply that is a refusal, and the one that a search's answer gives
 --     toldBy, toldOf     document 01's number for each reply, with a breach's number of variables, or a refusal's number and place
---     Judges, Finds      the reply to a context and a clause, and to a text, with the four places handed over
+--     Ruled              a text is refused before anything is searched for, or its rule is ready
+--     Prepares           what was read, every place of the columns included, and the representatives
+--     Finds              the reply to a text, with the four places handed over
 -- Assumes nothing.
 use mathlib.Core.List.{List, [], _∷_}
 use mathlib.Core.Path.{_≡_}
@@ -14,10 +16,12 @@ use lib.ListN.{length, replicate}
 use Rattle.meaning.specs.Context.{Context}
 use Rattle.meaning.specs.Rules.{Clause}
 use Rattle.meaning.specs.Columns.{contextFrom, clauseFrom}
-use Rattle.meaning.specs.Text.{narrow}
+use Rattle.meaning.specs.Equality.{Consistent, Promise}
+use Rattle.meaning.specs.Text.{narrow, Read, taken, read}
 use Rattle.meaning.specs.Replies as M
-use Rattle.meaning.specs.Replies.{breach, none, refused, placesOf, Judged, Replies}
+use Rattle.meaning.specs.Replies.{breach, none, refused, refusal, placesOf, Replies}
 use Rattle.meaning.specs.Formed.{Formed}
+use Rattle.reader.specs.Reads.{contextOf, clauseIn}
 use Rattle.closing.specs.Claims.{Closes}
 use Rattle.closing.specs.declared.Classes.{Classes}
 use Rattle.columns.specs.Fit.{FitContext, FitClause}
@@ -26,6 +30,9 @@ use Rattle.search.specs.declared.Kind.the-variants as S
 use Rattle.ledger.specs.declared.ContextColumns.{ContextColumns}
 use Rattle.ledger.specs.declared.ClauseColumns.{ClauseColumns}
 use Rattle.ledger.specs.declared.Refusal.{Refusal}
+use Rattle.finder.specs.declared.Answer.{Answer}
+use Rattle.finder.specs.declared.Answer.the-variants as A
+use Rattle.finder.specs.declared.Prepared.{Prepared}
 use Rattle.finder.specs.declared.Outcome.{Outcome}
 use Rattle.finder.specs.declared.Outcome.the-variants.{Breach, Clear, Refused}
 use Rattle.finder.specs.declared.Reply.{Reply}
@@ -68,11 +75,17 @@ toldOf (breach a) = 8 ∷ length a ∷ []
 toldOf none = 9 ∷ []
 toldOf (refused r) = 10 ∷ r .number ∷ r .place ∷ []
 
-pub record Judges (c : ContextColumns) (k : ClauseColumns) (r : Reply) : Type 0 where
-  pub reply : M.Reply
-  pub judged : Judged (said c) (asked k) reply
-  pub told : toldBy (r .outcome) ≡ toldOf reply
-  pub places : r .places ≡ placesOf reply
+-- as the finder replies to it; where it is ready, the finder's reply is a breach or none
+pub data Ruled (text : List ℕ) : Answer → Type 0 where
+  refuses : (x : Refusal) → Replies narrow text (refused (refusal (x .number) (x .line))) → Ruled text (A.Refused x)
+  ready : (s : Read) → read narrow text ≡ taken s → (s .clause .literals ≡ [] → ⊥) → Consistent (s .ledger .context) → Ruled text A.Ready
+
+-- where the reader refuses, the columns are those of the empty text, and the table holds each place's own number
+pub record Prepares (text : List ℕ) (r : Prepared) : Type 0 where
+  pub ruled : Ruled text (r .answer)
+  pub context : r .context ≡ contextOf (read narrow text)
+  pub clause : r .clause ≡ clauseIn (read narrow text)
+  pub closed : Promise (said (r .context)) 255 (r .table)
 
 pub record Finds (text : List ℕ) (r : Reply) : Type 0 where
   pub reply : M.Reply

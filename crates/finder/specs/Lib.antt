@@ -1,2 +1,4 @@
 -- The root of the definitions.
 pub mod Claims
+pub mod Ruling
+pub mod Following

@@ -1,4 +1,4 @@
-// The finder: the first breach of a text's rule, none, or a refusal.
+// The finder: the first breach of a text's rule, or the first after an assignment, none, or a refusal.
 use closing::Classes;
 use closing::Contradiction;
 use ledger::ClauseColumns;
@@ -10,9 +10,25 @@ ghost use Rattle.meaning.specs.Context.{differences};
 ghost use Rattle.meaning.specs.Equality.{repAt};
 ghost use Rattle.meaning.specs.ByTable.{clashOf};
 ghost use Rattle.search.specs.Hunting.{answerOf};
-ghost use Rattle.search.specs.Finding.{foundBy};
+ghost use Rattle.search.specs.Finding.{foundBy, laterBy};
 ghost use Rattle.closing.specs.Claims.{clashing};
-ghost use Rattle.finder.specs.Claims.{said, asked, ClosedIn, Asks, refusedWith, answeredWith, Judges, Finds};
+ghost use Rattle.finder.specs.Claims.{said, asked, ClosedIn, Asks, refusedWith, answeredWith, Prepares, Finds};
+ghost use Rattle.finder.specs.Following.{Follows};
+ghost use Rattle.finder.specs.Ruling.{Low, unlessEmpty, judgedBy, ruledBy};
+
+// A rule to be searched for, or refusal 1 to 9.
+pub enum Answer {
+    Ready,
+    Refused(Refusal),
+}
+
+// What was read, and the representatives of its rows.
+pub struct Prepared {
+    pub answer: Answer,
+    pub context: ContextColumns,
+    pub clause: ClauseColumns,
+    pub table: [u16; 255],
+}
 
 // A breach of so many variables, none, or a refusal.
 pub enum Outcome {
@@ -94,6 +110,43 @@ fn hunt(c: ContextColumns, table: [u16; 255], k: ClauseColumns) -> search::Reply
     )
 }
 
+// The first breach by a table, after an assignment.
+fn hunt_after(
+    c: ContextColumns,
+    table: [u16; 255],
+    k: ClauseColumns,
+    after: [u16; 4],
+) -> search::Reply
+    requires { ⌜ Asks c k ⌝ }
+    ensures { λ r. ⌜ r ≡ answerOf (laterBy (said c) table (asked k) after) ⌝ }
+{
+    let rows = c.rows;
+    let statements = c.statements;
+    let patterns = k.patterns;
+    let literals = k.literals;
+    search::next_in(
+        &c.symbols,
+        &c.counts,
+        &c.args,
+        rows,
+        &c.kinds,
+        &c.lefts,
+        &c.rights,
+        statements,
+        &table,
+        &k.kinds,
+        &k.heads,
+        &k.counts,
+        &k.args,
+        patterns,
+        &k.signs,
+        &k.lefts,
+        &k.rights,
+        literals,
+        after,
+    )
+}
+
 // Well-formed columns are never told unfit.
 fn answered(kind: Kind, places: [u16; 4]) -> Reply
     ensures { λ r. ⌜ r ≡ answeredWith kind places ⌝ }
@@ -106,42 +159,98 @@ fn answered(kind: Kind, places: [u16; 4]) -> Reply
     Reply { outcome, places }
 }
 
-// Refusal 8, then 9, then the first breach or none.
-fn judge(c: ContextColumns, k: ClauseColumns) -> Reply
-    requires { ⌜ Asks c k ⌝ }
-    ensures { λ r. ⌜ Judges c k r ⌝ }
+// Refusal 8 where the rule has no literal, else what is said otherwise.
+fn unless_empty(literals: usize, other: Answer) -> Answer
+    ensures { λ r. ⌜ r ≡ unlessEmpty literals other ⌝ }
 {
-    let literals = k.literals;
     if literals == 0 {
         let x = Refusal { number: 8, line: 0 };
-        return refused(x);
+        return Answer::Refused(x);
     }
-    let closed = classes(c);
+    other
+}
+
+// Refusal 8, then 9.
+fn judge(literals: usize, clash: Contradiction) -> Answer
+    requires { ⌜ Low clash ⌝ }
+    ensures { λ r. ⌜ r ≡ judgedBy literals clash ⌝ }
+{
+    match clash {
+        Contradiction::First(n) => {
+            let x = Refusal {
+                number: 9,
+                line: n + 1,
+            };
+            unless_empty(literals, Answer::Refused(x))
+        }
+        Contradiction::Clear => unless_empty(literals, Answer::Ready),
+    }
+}
+
+// The reader's refusal, then 8, then 9.
+fn rule(first: reader::Answer, literals: usize, clash: Contradiction) -> Answer
+    requires { ⌜ Low clash ⌝ }
+    ensures { λ r. ⌜ r ≡ ruledBy first literals clash ⌝ }
+{
+    match first {
+        reader::Answer::Refused(x) => Answer::Refused(x),
+        reader::Answer::Taken => judge(literals, clash),
+    }
+}
+
+// A text read and its context closed, or refused before anything is searched for. The columns are the reader's, whatever the answer.
+pub fn prepare(text: &[u8]) -> Prepared
+    ensures prepares { λ r. ⌜ Prepares (now (text .entry)) r ⌝ }
+{
+    let read = reader::read(text);
+    let context = read.context;
+    let clause = read.clause;
+    let closed = classes(context);
     let table = closed.table;
-    let clash = contradiction(c, table);
-    if let Contradiction::First(n) = clash {
-        let x = Refusal {
-            number: 9,
-            line: n + 1,
-        };
-        return refused(x);
+    let clash = contradiction(context, table);
+    let first = read.answer;
+    let literals = clause.literals;
+    let answer = rule(first, literals, clash);
+    Prepared {
+        answer,
+        context,
+        clause,
+        table,
     }
-    let r = hunt(c, table, k);
-    let kind = r.kind;
-    let places = r.places;
-    answered(kind, places)
 }
 
 // The first breach of a text's rule, none, or the refusal.
 pub fn find(text: &[u8]) -> Reply
     ensures finds { λ r. ⌜ Finds (now (text .entry)) r ⌝ }
 {
-    let read = reader::read(text);
-    let answer = read.answer;
-    if let reader::Answer::Refused(x) = answer {
+    let p = prepare(text);
+    let answer = p.answer;
+    if let Answer::Refused(x) = answer {
         return refused(x);
     }
-    let context = read.context;
-    let clause = read.clause;
-    judge(context, clause)
+    let context = p.context;
+    let clause = p.clause;
+    let table = p.table;
+    let r = hunt(context, table, clause);
+    let kind = r.kind;
+    let places = r.places;
+    answered(kind, places)
+}
+
+// The first breach made of representatives after an assignment, none, or the refusal.
+pub fn next(text: &[u8], after: [u16; 4]) -> Reply
+    ensures follows { λ r. ⌜ Follows (now (text .entry)) after r ⌝ }
+{
+    let p = prepare(text);
+    let answer = p.answer;
+    if let Answer::Refused(x) = answer {
+        return refused(x);
+    }
+    let context = p.context;
+    let clause = p.clause;
+    let table = p.table;
+    let r = hunt_after(context, table, clause, after);
+    let kind = r.kind;
+    let places = r.places;
+    answered(kind, places)
 }

@@ -46,8 +46,12 @@ pub mod Computed
 pub mod Given
 pub mod Demanded
 pub mod Computes
+pub mod Listing
+pub mod ListingNext
 pub mod Answered
+pub mod ListingPrints
 pub mod Sheet
+pub mod ListingSheet
 pub mod Controls
 pub mod Grounded
 pub mod Entries

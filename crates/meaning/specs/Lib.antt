@@ -6,11 +6,13 @@ pub mod Grounds
 pub mod Text
 pub mod Writing
 pub mod Replies
+pub mod Listing
 pub mod Formed
 pub mod Columns
 pub mod ByTable
 pub mod Values
 pub mod FirstBy
+pub mod Next
 pub mod Sheet
 pub mod Packing
 pub mod Demands

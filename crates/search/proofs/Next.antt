@@ -26,7 +26,7 @@ use Rattle.meaning.proofs.Box.{AllIn}
 use Rattle.meaning.proofs.Seek.{seek-first, starts, starts-rising}
 use Rattle.meaning.proofs.From.{AtOrAfter}
 use Rattle.meaning.proofs.Pruned.{Sought}
-use Rattle.search.specs.Next.{earlier, nextBy}
+use Rattle.meaning.specs.Next.{earlier, nextBy}
 use Rattle.search.specs.Finding.{nextOf}
 
 -- ---- the order

@@ -26,7 +26,7 @@ use Rattle.meaning.proofs.From.{notEarlier, notBefore}
 use Rattle.meaning.proofs.Pruned.{startBox, Sought, dead, searchFrom, first-from-all}
 use Rattle.meaning.proofs.Due.{due-search}
 use Rattle.plan.specs.Planning.{Arranged}
-use Rattle.search.specs.Next.{nextBy}
+use Rattle.meaning.specs.Next.{nextBy}
 use Rattle.search.specs.Hunting.{stageOf, deadOf, enterFrom, startOf, aloneOf, rowsOf}
 use Rattle.search.proofs.Bridge.{Alike, Narrows, zero-at, hunt-search}
 use Rattle.search.proofs.Next.{bump, next-from}

@@ -24,7 +24,7 @@ use Rattle.closing.specs.declared.Contradiction.the-variants as C
 use Rattle.search.specs.declared.Kind.{Kind}
 use Rattle.search.specs.declared.Kind.the-variants.{Breach, Clear, Unfit}
 use Rattle.search.specs.declared.Reply.{Reply}
-use Rattle.search.specs.Next.{nextBy}
+use Rattle.meaning.specs.Next.{nextBy}
 use Rattle.search.specs.Hunting.{answerOf}
 
 abbrev pub foundBy : Context → List ℕ → Clause → Found

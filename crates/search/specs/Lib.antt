@@ -1,5 +1,4 @@
 -- The root of the definitions.
 pub mod Testing
 pub mod Hunting
-pub mod Next
 pub mod Finding

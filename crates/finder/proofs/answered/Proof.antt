@@ -1,30 +1,26 @@
+-- `answered` meets its contract: a reply for each kind of answer.
+-- Assumes nothing.
 use Rattle.finder.proofs.Judging.{mine}
 use Rattle.finder.proofs.answered.Statement.{statement}
 use Rattle.finder.proofs.answered.Tie as tie
 use Rattle.finder.proofs.answered.Reads as reads
 use Rattle.finder.proofs.answered.Lts as lts
 
--- src/lib.rt:102:22
 enum-known-kind : tie.Need-enum-known-kind
 enum-known-kind c = search mine
 
--- src/lib.rt:103:24
 enum-told : tie.Need-enum-told
 enum-told c = search mine
 
--- src/lib.rt:104:24
 enum-told-2 : tie.Need-enum-told-2
 enum-told-2 c = search mine
 
--- src/lib.rt:98:1
 returns : tie.Need-returns
 returns c = search mine
 
--- src/lib.rt:98:1
 returns-2 : tie.Need-returns-2
 returns-2 c = search mine
 
--- src/lib.rt:98:1
 returns-3 : tie.Need-returns-3
 returns-3 c = search mine
 

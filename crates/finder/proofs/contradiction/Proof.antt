@@ -1,3 +1,5 @@
+-- `contradiction` meets its contract: the closing tells the first clash of the columns.
+-- Assumes nothing.
 use Rattle.finder.proofs.Judging.{mine}
 use Rattle.finder.proofs.contradiction.Statement.{statement}
 use Rattle.finder.proofs.contradiction.Tie as tie
@@ -5,11 +7,9 @@ use Rattle.finder.proofs.contradiction.Reads as reads
 use Rattle.finder.proofs.contradiction.Lts as lts
 use Rattle.closing.proofs.clash.Reads as clash-reads
 
--- src/lib.rt:59:5
 clash-requires : tie.Need-clash-requires
 clash-requires c κs = search mine
 
--- src/lib.rt:55:1
 returns : tie.Need-returns
 returns c = search mine
 

@@ -1,3 +1,5 @@
+-- `hunt` meets its contract: the search finds the columns well-formed.
+-- Assumes nothing.
 use Rattle.finder.proofs.Judging.{mine}
 use Rattle.finder.proofs.hunt.Statement.{statement}
 use Rattle.finder.proofs.hunt.Tie as tie
@@ -5,11 +7,9 @@ use Rattle.finder.proofs.hunt.Reads as reads
 use Rattle.finder.proofs.hunt.Lts as lts
 use Rattle.search.proofs.find_in.Reads as find-in-reads
 
--- src/lib.rt:75:5
 find-in-requires : tie.Need-find-in-requires
 find-in-requires c κs = search mine
 
--- src/lib.rt:67:1
 returns : tie.Need-returns
 returns c = search mine
 

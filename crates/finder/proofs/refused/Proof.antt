@@ -1,3 +1,5 @@
+-- `refused` meets its contract: the four places hold 255.
+-- Assumes nothing.
 use mathlib.Core.Path.{refl}
 use Rattle.finder.specs.Claims.{refusedWith}
 use Rattle.finder.proofs.refused.Statement.{statement}
@@ -5,7 +7,6 @@ use Rattle.finder.proofs.refused.Tie as tie
 use Rattle.finder.proofs.refused.Reads as reads
 use Rattle.finder.proofs.refused.Lts as lts
 
--- src/lib.rt:26:1
 returns : tie.Need-returns
 unfolding refusedWith
 returns c = refl

@@ -1,0 +1,48 @@
+-- `next` meets its contract: the refusal, or what the search answers to well-formed columns and an assignment.
+-- Assumes nothing.
+use Rattle.finder.proofs.Following.{mine}
+use Rattle.finder.proofs.next.Statement.{statement}
+use Rattle.finder.proofs.next.Tie as tie
+use Rattle.finder.proofs.next.Reads as reads
+use Rattle.finder.proofs.next.Lts as lts
+use Rattle.finder.proofs.answered.Reads as answered-reads
+use Rattle.finder.proofs.hunt_after.Reads as hunt-after-reads
+use Rattle.finder.proofs.prepare.Reads as prepare-reads
+use Rattle.finder.proofs.refused.Reads as refused-reads
+
+prepare-requires : tie.Need-prepare-requires
+prepare-requires c κs = search mine
+
+enum-known-answer : tie.Need-enum-known-answer
+enum-known-answer c = search mine
+
+refused-requires : tie.Need-refused-requires
+refused-requires c κs = search mine
+
+returns : tie.Need-returns
+returns c = search mine
+
+enum-told : tie.Need-enum-told
+enum-told c = search mine
+
+hunt-after-requires : tie.Need-hunt-after-requires
+hunt-after-requires c κs = search mine
+
+answered-requires : tie.Need-answered-requires
+answered-requires c κs = search mine
+
+returns-2 : tie.Need-returns-2
+returns-2 c = search mine
+
+pub next-spec : {M : Type 1} → statement M
+next-spec =
+    tie.close
+    (tie.spec
+    prepare-requires
+    enum-known-answer
+    refused-requires
+    returns
+    enum-told
+    hunt-after-requires
+    answered-requires
+    returns-2)

@@ -1,0 +1,99 @@
+-- Each piece with room for a line leaves less of the list: what a program that writes piece by piece ends by.
+--     restBy, leftOf    what is still to be listed at a state, and how many lines are still to be written
+--     fill-falls        with room for 13 bytes fewer lines are left afterwards, unless the list was done
+-- Assumes nothing.
+use mathlib.Core.List.{List, [], _++_}
+use mathlib.Core.Path.{_≡_, refl, sym, ap, subst}
+use Prim.Native.Nat.{ℕ, suc, _≤_, _<_}
+use native.Mathlib.Omega.{arith}
+use lib.ListN.{length, replicate}
+use Rattle.meaning.specs.Context.{Context, differences}
+use Rattle.meaning.specs.Equality.{repAt}
+use Rattle.meaning.specs.Rules.{Clause, Found}
+use Rattle.meaning.specs.ByTable.{apartBy}
+use Rattle.meaning.specs.Replies.{breach, replyOf, placesOf, printed}
+use Rattle.meaning.specs.Listing.{Goes}
+use Rattle.meaning.proofs.Listing.{goes-one}
+use Rattle.meaning.proofs.ListingNext.{everyBy, everyAfter, every-goes, after-goes}
+use Rattle.ledger.specs.declared.ContextColumns.{ContextColumns}
+use Rattle.ledger.specs.declared.ClauseColumns.{ClauseColumns}
+use Rattle.finder.specs.Claims.{said, asked}
+use Rattle.listing.specs.declared.Stage.{Stage}
+use Rattle.listing.specs.declared.Stage.the-variants.{Start, After, Done}
+use Rattle.listing.specs.declared.State.{State}
+use Rattle.listing.specs.declared.Filled.{Filled}
+use Rattle.listing.specs.Filling.{comesBy, Comes, Runs, stops, waits, writes, Fills}
+use Rattle.listing.proofs.Filling.{runs-one}
+use Rattle.listing.proofs.Pieces.{onward, placed-front, Shorter, none-left, fewer, Advance, run-on, line-short}
+
+unfoldable pub restBy : Context → List ℕ → Clause → Stage → List ℕ → List (List ℕ)
+restBy c table k Start places = everyBy (apartBy (repAt table) (differences c)) (c .rows) (repAt table) 65536 k
+restBy c table k After places = everyAfter (apartBy (repAt table) (differences c)) (c .rows) (repAt table) 65536 k places
+restBy c table k Done places = []
+
+-- a breach each, and the last line
+unfoldable pub leftBy : Stage → ℕ → ℕ
+leftBy Start n = suc n
+leftBy After n = suc n
+leftBy Done n = 0
+
+unfoldable pub leftOf : ContextColumns → List ℕ → ClauseColumns → State → ℕ
+leftOf c table k s = leftBy (s .stage) (length (restBy (said c) table (asked k) (s .stage) (s .places)))
+
+left-going : (x : Stage) (n : ℕ) → (x ≡ Done → ⊥) → leftBy x n ≡ suc n
+unfolding leftBy
+left-going Start n h = refl
+left-going After n h = refl
+left-going Done n h = absurd (h refl)
+
+left-done : (x : Stage) (n : ℕ) → x ≡ Done → leftBy x n ≡ 0
+unfolding leftBy
+left-done x n h = rw h refl
+
+module _ (c : ContextColumns) (t : List ℕ) (k : ClauseColumns) where
+  rest-goes : (x : Stage) (places : List ℕ) → (x ≡ Done → ⊥) → Goes (onward c t k) (comesBy (said c) t (asked k) x places) (restBy (said c) t (asked k) x places)
+  unfolding comesBy restBy
+  rest-goes Start places h =
+      every-goes (apartBy (repAt t) (differences (said c))) (said c .rows) (repAt t) 65536 (asked k) (λ a. placesOf (breach a)) placed-front
+  rest-goes After places h =
+      after-goes (apartBy (repAt t) (differences (said c))) (said c .rows) (repAt t) 65536 (asked k) (λ a. placesOf (breach a)) placed-front places
+  rest-goes Done places h = absurd (h refl)
+
+  comes-goes : (s : State) (r : Found) → Comes c t k s r → Goes (onward c t k) r (restBy (said c) t (asked k) (s .stage) (s .places))
+  comes-goes s r w = subst (λ (f : Found). Goes (onward c t k) f (restBy (said c) t (asked k) (s .stage) (s .places))) (sym (w .what)) (rest-goes (s .stage) (s .places) (w .going))
+
+  comes-left : (s : State) (r : Found) → Comes c t k s r → leftOf c t k s ≡ suc (length (restBy (said c) t (asked k) (s .stage) (s .places)))
+  unfolding leftOf
+  comes-left s r w = left-going (s .stage) (length (restBy (said c) t (asked k) (s .stage) (s .places))) (w .going)
+
+  falls-from : (n : ℕ) (s u : State) (bytes : List ℕ) (r : Found) → 13 ≤ n → Comes c t k s r → Runs c t k n s bytes u → leftOf c t k u < leftOf c t k s
+  unfolding leftOf
+  falls-from n s u bytes r h w y = go (subst (λ (z : State). Shorter c t k z l) (sym last) (a .shorter))
+    where
+      l : List (List ℕ)
+      l = restBy (said c) t (asked k) (s .stage) (s .places)
+
+      a : Advance c t k n s l
+      a = run-on c t k n s r l w (comes-goes s r w) (omega (arith, line-short c t k s r w))
+
+      last : u ≡ a .last
+      last = runs-one c t k n s bytes (a .bytes) u (a .last) y (a .run) .1
+
+      go : Shorter c t k u l → leftOf c t k u < leftOf c t k s
+      go (none-left e) =
+          omega (arith, comes-left s r w, left-done (u .stage) (length (restBy (said c) t (asked k) (u .stage) (u .places))) e)
+      go (fewer q m v g lt) =
+          let e : m ≡ restBy (said c) t (asked k) (u .stage) (u .places) =
+          goes-one 0 (onward c t k) q m (restBy (said c) t (asked k) (u .stage) (u .places)) g (comes-goes u q v) in
+          omega (arith, comes-left s r w, comes-left u q v, ap length e)
+
+  runs-falls : (n : ℕ) (s u : State) (bytes : List ℕ) → 13 ≤ n → (s .stage ≡ Done → ⊥) → Runs c t k n s bytes u → leftOf c t k u < leftOf c t k s
+  unfolding leftOf
+  runs-falls n s u bytes h g (stops m z w) =
+      omega (arith, left-going (z .stage) (length (restBy (said c) t (asked k) (z .stage) (z .places))) g, left-done Done (length (restBy (said c) t (asked k) Done (replicate 4 255))) refl)
+  runs-falls n s u bytes h g (waits m z r w l) = falls-from m z z [] r h w (waits m z r w l)
+  runs-falls n s u bytes h g (writes m z r w l b v y) = falls-from m z v (printed (replyOf r) ++ b) r h w (writes m z r w l b v y)
+
+  pub fill-falls : (s : State) (lent : List ℕ) (r : Filled) (after : List ℕ) → 13 ≤ length lent → (s .stage ≡ Done → ⊥) → Fills c t k s lent r after
+      → leftOf c t k (r .next) < leftOf c t k s
+  fill-falls s lent r after h g f = runs-falls (length lent) s (r .next) (f .bytes) h g (f .runs)

@@ -1,0 +1,85 @@
+-- The pieces are the program's whole output.
+--     fitted-formed               what well-formed columns say is well-formed
+--     every-pieces, every-ends    over any table: the pieces are the lines of all that is sought, and with rooms of 13 bytes or more they end
+--     list-pieces                 over a table of representatives: the lines of the list
+--     text-pieces                 over the columns of a text that the finder answers: what the program has to print
+-- Assumes nothing.
+use mathlib.Core.List.{List, [], _∷_}
+use mathlib.Core.Path.{_≡_, refl, sym, ap, subst, subst₂, _∙_}
+use Prim.Native.Nat.{ℕ, zero, suc, _≤_}
+use native.Mathlib.Omega.{arith}
+use lib.ListN.{length, getD, length-append}
+use Rattle.meaning.specs.Context.{Context, differences}
+use Rattle.meaning.specs.Equality.{repAt, Representatives}
+use Rattle.meaning.specs.Rules.{Clause, Found}
+use Rattle.meaning.specs.Formed.{Formed, NamesAll}
+use Rattle.meaning.specs.Columns.{argsAt, contextFrom, patternOf, patternsFrom, literalsFrom, clauseFrom}
+use Rattle.meaning.specs.ByTable.{apartBy}
+use Rattle.meaning.specs.Text.{narrow, Read, taken, read}
+use Rattle.meaning.specs.Replies.{breach, replyOf, placesOf, inputLimit, Replies}
+use Rattle.meaning.specs.Listing.{Lists, Goes, linesOf, listed, lists, printedListing, BreachesPrints, replies}
+use Rattle.meaning.proofs.ListingNext.{everyBy, every-goes, every-lists}
+use Rattle.meaning.proofs.ListingPrints.{lists-one}
+use Rattle.ledger.specs.declared.ContextColumns.{ContextColumns}
+use Rattle.ledger.specs.declared.ClauseColumns.{ClauseColumns}
+use Rattle.search.specs.Finding.{foundBy}
+use Rattle.finder.specs.Claims.{said, asked}
+use Rattle.normaliser.proofs.Texts.{length-from}
+use Rattle.listing.specs.Filling.{Fitted, startState, Pieces}
+use Rattle.listing.proofs.Pieces.{onward, placed-front, start-comes, pieces-lines, pieces-end}
+
+-- ---- over any table
+
+module _ (c : ContextColumns) (t : List ℕ) (k : ClauseColumns) where
+  abbrev pub allSought : List (List ℕ)
+  allSought = everyBy (apartBy (repAt t) (differences (said c))) (said c .rows) (repAt t) 65536 (asked k)
+
+  goes-sought : Goes (onward c t k) (foundBy (said c) t (asked k)) allSought
+  goes-sought = every-goes (apartBy (repAt t) (differences (said c))) (said c .rows) (repAt t) 65536 (asked k) (λ a. placesOf (breach a)) placed-front
+
+  module _ (fitted : Fitted c k) (room : ℕ → ℕ) where
+    pub every-pieces : (i : ℕ) (out : List ℕ) → Pieces c t k room i startState out → out ≡ linesOf allSought
+    every-pieces i out p = pieces-lines c t k room i startState out (foundBy (said c) t (asked k)) allSought p (start-comes c t k fitted) goes-sought
+
+    pub every-ends : ((i : ℕ) → 13 ≤ room i) → (out : List ℕ) × Pieces c t k room 0 startState out
+    every-ends h = pieces-end c t k room h (suc (length allSought)) allSought (omega arith) 0 startState (foundBy (said c) t (asked k)) (start-comes c t k fitted) goes-sought
+
+-- ---- over a table of representatives
+
+length-patterns : (kinds heads counts args : List ℕ) (n : ℕ) → length (patternsFrom kinds heads counts args n) ≡ n
+unfolding patternsFrom
+length-patterns kinds heads counts args zero = refl
+length-patterns kinds heads counts args (suc n) =
+    omega (arith, length-append (patternsFrom kinds heads counts args n) (patternOf (getD kinds n 0) (getD heads n 0) (argsAt counts args n) ∷ []), length-patterns kinds heads counts args n)
+
+pub fitted-formed : (c : ContextColumns) (k : ClauseColumns) → Fitted c k → Formed (said c) (asked k)
+unfolding clauseFrom
+fitted-formed c k f =
+    record {
+      fit = f .context .fit;
+      placed = f .clause .placed;
+      named =
+          subst (λ (n : ℕ). NamesAll n (literalsFrom (k .signs) (k .lefts) (k .rights) (k .literals))) (sym (length-patterns (k .kinds) (k .heads) (k .counts) (k .args) (k .patterns)))
+          (f .clause .named);
+    }
+
+module _ (c : ContextColumns) (t : List ℕ) (k : ClauseColumns) (fitted : Fitted c k) (represents : Representatives (said c) (repAt t)) where
+  pub sought-lists : Lists (said c) (asked k) (allSought c t k)
+  unfolding contextFrom
+  sought-lists =
+      every-lists (said c) (asked k) (fitted-formed c k fitted) (repAt t) represents 65536
+      (omega (arith, length-from (c .symbols) (c .counts) (c .args) (c .rows), fitted .context .rows-few))
+
+  pub list-pieces : (l : List (List ℕ)) → Lists (said c) (asked k) l → (room : ℕ → ℕ) (i : ℕ) (out : List ℕ) → Pieces c t k room i startState out → out ≡ linesOf l
+  list-pieces l p room i out q =
+      every-pieces c t k fitted room i out q ∙ ap linesOf (lists-one (said c) (asked k) (allSought c t k) l sought-lists p)
+
+  -- ---- for a text whose context and clause the columns say, and that the finder answers by a breach or none
+  pub text-pieces : (input : List ℕ) → length input ≤ inputLimit → (s : Read) → read narrow input ≡ taken s → said c ≡ s .ledger .context → asked k ≡ s .clause
+      → (r : Found) → Replies narrow input (replyOf r) → (room : ℕ → ℕ) (i : ℕ) (out : List ℕ) → Pieces c t k room i startState out
+      → BreachesPrints narrow input out
+  unfolding printedListing
+  text-pieces input few s e p q r w room i out y =
+      let l : List (List ℕ) = allSought c t k in
+      let f : Lists (s .ledger .context) (s .clause) l = subst₂ (λ (x : Context) (y : Clause). Lists x y l) p q sought-lists in
+      subst (BreachesPrints narrow input) (sym (every-pieces c t k fitted room i out y)) (replies few (listed l) (lists s e r w l f))

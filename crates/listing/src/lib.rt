@@ -1,0 +1,241 @@
+// The list of all breaches whose rows are representatives, written piece by piece into a lent space.
+pub mod opening;
+
+use ledger::ClauseColumns;
+use ledger::ContextColumns;
+use normaliser::printed::breach_line;
+use normaliser::printed::none_line;
+use search::Kind;
+ghost use mathlib.Core.Path.{_≡_};
+ghost use lib.ListN.{take};
+ghost use lib.Seq.{sets};
+ghost use Rattle.meaning.specs.Rules.{nothing};
+ghost use Rattle.search.specs.Finding.{foundBy, laterBy};
+ghost use Rattle.finder.specs.Claims.{said, asked};
+ghost use Rattle.listing.specs.Filling.{doneBy, startState, stateAfter, Fills};
+ghost use Rattle.listing.specs.Entries.{Answered, Tells, EntryAt, Lined};
+
+// At the start of the list, after a breach, or past the end.
+pub enum Stage {
+    Start,
+    After,
+    Done,
+}
+
+// The rows of the breach stand beside the stage, unused places 255.
+pub struct State {
+    pub stage: Stage,
+    pub places: [u16; 4],
+}
+
+// How many bytes were written, and where the list goes on.
+pub struct Filled {
+    pub used: usize,
+    pub next: State,
+}
+
+// The line that comes at a state, in the first `len` bytes, and the state after it; no bytes where nothing comes.
+struct Entry {
+    bytes: [u8; 32],
+    len: usize,
+    next: State,
+}
+
+pub fn start() -> State
+    ensures { λ s. ⌜ s ≡ startState ⌝ }
+{
+    State {
+        stage: Stage::Start,
+        places: [255; 4],
+    }
+}
+
+// Whether the list is written to its end.
+pub fn is_done(s: State) -> bool
+    ensures { λ b. ⌜ b ≡ doneBy (s .stage) ⌝ }
+{
+    let stage = s.stage;
+    match stage {
+        Stage::Start => false,
+        Stage::After => false,
+        Stage::Done => true,
+    }
+}
+
+fn done() -> State
+    ensures { λ s. ⌜ s ≡ stateAfter nothing ⌝ }
+{
+    State {
+        stage: Stage::Done,
+        places: [255; 4],
+    }
+}
+
+fn wide(x: u8) -> usize
+    ensures { λ r. ⌜ r ≡ x ⌝ }
+{
+    x as usize
+}
+
+// The first breach.
+fn first(c: ContextColumns, table: [u16; 255], k: ClauseColumns) -> search::Reply
+    ensures { λ r. ⌜ Answered c k (foundBy (said c) table (asked k)) r ⌝ }
+{
+    let rows = c.rows;
+    let statements = c.statements;
+    let patterns = k.patterns;
+    let literals = k.literals;
+    search::find_in(
+        &c.symbols,
+        &c.counts,
+        &c.args,
+        rows,
+        &c.kinds,
+        &c.lefts,
+        &c.rights,
+        statements,
+        &table,
+        &k.kinds,
+        &k.heads,
+        &k.counts,
+        &k.args,
+        patterns,
+        &k.signs,
+        &k.lefts,
+        &k.rights,
+        literals,
+    )
+}
+
+// The first breach after an assignment.
+fn following(
+    c: ContextColumns,
+    table: [u16; 255],
+    k: ClauseColumns,
+    after: [u16; 4],
+) -> search::Reply
+    ensures { λ r. ⌜ Answered c k (laterBy (said c) table (asked k) after) r ⌝ }
+{
+    let rows = c.rows;
+    let statements = c.statements;
+    let patterns = k.patterns;
+    let literals = k.literals;
+    search::next_in(
+        &c.symbols,
+        &c.counts,
+        &c.args,
+        rows,
+        &c.kinds,
+        &c.lefts,
+        &c.rights,
+        statements,
+        &table,
+        &k.kinds,
+        &k.heads,
+        &k.counts,
+        &k.args,
+        patterns,
+        &k.signs,
+        &k.lefts,
+        &k.rights,
+        literals,
+        after,
+    )
+}
+
+// The line of a breach, the last line, or none for columns that are not well-formed.
+fn told(kind: Kind, places: [u16; 4]) -> Entry
+    ensures { λ e. ⌜ Tells kind places e ⌝ }
+{
+    match kind {
+        Kind::Breach(n) => {
+            let line = breach_line(wide(n), places);
+            let bytes = line.bytes;
+            let len = line.len;
+            let next = State {
+                stage: Stage::After,
+                places,
+            };
+            Entry { bytes, len, next }
+        }
+        Kind::Clear => {
+            let line = none_line();
+            let bytes = line.bytes;
+            let len = line.len;
+            let next = done();
+            Entry { bytes, len, next }
+        }
+        Kind::Unfit => {
+            let next = done();
+            Entry {
+                bytes: [0; 32],
+                len: 0,
+                next,
+            }
+        }
+    }
+}
+
+fn line_at(c: ContextColumns, table: [u16; 255], k: ClauseColumns, s: State) -> Entry
+    ensures { λ e. ⌜ EntryAt c table k s e ⌝ }
+{
+    let stage = s.stage;
+    let places = s.places;
+    match stage {
+        Stage::Start => {
+            let r = first(c, table, k);
+            let kind = r.kind;
+            let rows = r.places;
+            told(kind, rows)
+        }
+        Stage::After => {
+            let r = following(c, table, k, places);
+            let kind = r.kind;
+            let rows = r.places;
+            told(kind, rows)
+        }
+        Stage::Done => told(Kind::Unfit, places),
+    }
+}
+
+// Stores the first bytes of a line.
+fn put(bytes: [u8; 32], len: usize, space: &mut [u8], at: usize)
+    requires { ⌜ Lined len (now space) at ⌝ }
+    ensures { λ _. ⌜ now (space .exit) ≡ sets (now (space .entry)) at (take len bytes) ⌝ }
+{
+    let mut i = 0;
+    while i < len {
+        space[at + i] = bytes[i];
+        i += 1;
+    }
+}
+
+// Writes whole lines from a state on, as many as there is room for.
+pub fn fill(
+    c: ContextColumns,
+    table: [u16; 255],
+    k: ClauseColumns,
+    state: State,
+    space: &mut [u8],
+) -> Filled
+    ensures fills { λ r. ⌜ Fills c table k state (now (space .entry)) r (now (space .exit)) ⌝ }
+{
+    let mut used = 0;
+    let mut at = state;
+    loop {
+        let e = line_at(c, table, k, at);
+        let len = e.len;
+        if len == 0 {
+            let next = done();
+            return Filled { used, next };
+        }
+        if space.len() - used < len {
+            return Filled { used, next: at };
+        }
+        let bytes = e.bytes;
+        put(bytes, len, space, used);
+        used += len;
+        let next = e.next;
+        at = next;
+    }
+}

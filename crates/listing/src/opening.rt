@@ -1,0 +1,94 @@
+// An input made ready to be listed: read and closed once, or refused with a line.
+use crate::State;
+use crate::done;
+use crate::start;
+use finder::Answer;
+use ledger::ClauseColumns;
+use ledger::ContextColumns;
+use ledger::Refusal;
+use normaliser::printed::Line;
+use normaliser::printed::refusal_line;
+ghost use mathlib.Core.Path.{_≡_};
+ghost use mathlib.Core.List.{[]};
+ghost use Rattle.normaliser.specs.Prints.{Prints};
+ghost use Rattle.listing.specs.Opening.{limitedBy, Headed, Opens};
+
+// The most bytes that the program takes.
+const MOST_INPUT: usize = 16384;
+
+// The refusal's line, or none, and where the list begins.
+struct Head {
+    line: Line,
+    state: State,
+}
+
+// What the program prints first, and what the list is filled from. A refused input has a line and nothing to list.
+pub struct Opened {
+    pub line: Line,
+    pub state: State,
+    pub context: ContextColumns,
+    pub clause: ClauseColumns,
+    pub table: [u16; 255],
+}
+
+fn no_line() -> Line
+    ensures { λ r. ⌜ Prints [] (r .bytes) (r .len) ⌝ }
+{
+    Line {
+        bytes: [0; 32],
+        len: 0,
+    }
+}
+
+// Refusal 11 before everything else.
+fn limit(length: usize, answer: Answer) -> Answer
+    ensures { λ r. ⌜ r ≡ limitedBy length answer ⌝ }
+{
+    if MOST_INPUT < length {
+        let x = Refusal {
+            number: 11,
+            line: 0,
+        };
+        return Answer::Refused(x);
+    }
+    answer
+}
+
+fn begin(answer: Answer) -> Head
+    ensures { λ h. ⌜ Headed answer (h .line) (h .state) ⌝ }
+{
+    match answer {
+        Answer::Ready => {
+            let line = no_line();
+            let state = start();
+            Head { line, state }
+        }
+        Answer::Refused(x) => {
+            let line = refusal_line(x.number, x.line);
+            let state = done();
+            Head { line, state }
+        }
+    }
+}
+
+// The columns are the reader's, whatever the answer.
+pub fn open(input: &[u8]) -> Opened
+    ensures opens { λ o. ⌜ Opens (now (input .entry)) o ⌝ }
+{
+    let p = finder::prepare(input);
+    let first = p.answer;
+    let answer = limit(input.len(), first);
+    let h = begin(answer);
+    let line = h.line;
+    let state = h.state;
+    let context = p.context;
+    let clause = p.clause;
+    let table = p.table;
+    Opened {
+        line,
+        state,
+        context,
+        clause,
+        table,
+    }
+}
