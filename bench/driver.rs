@@ -41,11 +41,14 @@ fn efficient_side(workload: &Workload, lent: &mut [u8]) -> (u64, Rows) {
     let text = black_box(&workload.text[..]);
     if workload.normalise {
         let reply = efficient::normalise(text, lent);
-        return (reply.map_or_else(|why| boundary::refused(why.number, why.place as usize), boundary::written), [0; 4]);
+        return (
+            reply.map_or_else(|why| boundary::refused(why.number, why.place as usize, why.offset as usize), boundary::written),
+            [0; 4],
+        );
     }
     match efficient::find(text) {
         Found::None => (NONE, [0; 4]),
-        Found::Refused(why) => (boundary::refused(why.number, why.place as usize), [0; 4]),
+        Found::Refused(why) => (boundary::refused(why.number, why.place as usize, why.offset as usize), [0; 4]),
         Found::Breach(variables, mut rows) => {
             rows[variables..].fill(UNUSED);
             (BREACH + 256 * variables as u64, rows)

@@ -34,7 +34,7 @@ int main(void)
     } else if (checker_kind(reply) == 9) {
         printf("none\n");
     } else {
-        printf("refusal %u at %u\n", checker_number(reply), checker_place(reply));
+        printf("refusal %u at %u, byte %u\n", checker_number(reply), checker_place(reply), checker_offset(reply));
     }
     uint8_t space[7898];
     reply = checker_normalise((const uint8_t *)text, strlen(text), space, sizeof space);

@@ -6,10 +6,10 @@
  *
  * kind 8   a breach; number is how many variables the rule has
  * kind 9   none: no assignment of rows breaks the rule
- * kind 10  a refusal: its number, and the line or ordinal that it names (README.md lists them)
+ * kind 10  a refusal: its number, the line or ordinal that it names, and the byte of that line (README.md lists them)
  * kind 0   of the normaliser: everything above the lowest eight bits is how many bytes were written
  *
- * The offset is 0: room for the place of a bad byte within its line.
+ * The offset counts the bytes of a refused line from 0, and stops at 65,535. It says where to look for refusals 1 and 6; else it is 0.
  *
  * Pointers are as in Rust: aligned, not null (a pointer to no bytes may dangle), and the text does not overlap what is written.
  */
@@ -35,6 +35,7 @@ uint64_t checker_normalise(const uint8_t *text, size_t length, uint8_t *lent, si
 static inline unsigned checker_kind(uint64_t reply) { return (unsigned)(reply & 0xFF); }
 static inline unsigned checker_number(uint64_t reply) { return (unsigned)(reply >> 8 & 0xFF); }
 static inline unsigned checker_place(uint64_t reply) { return (unsigned)(reply >> 16 & 0xFFFF); }
+static inline unsigned checker_offset(uint64_t reply) { return (unsigned)(reply >> 32 & 0xFFFF); }
 static inline size_t checker_written(uint64_t reply) { return (size_t)(reply >> 8); }
 
 #endif

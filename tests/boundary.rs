@@ -1,8 +1,8 @@
 //! The library's C boundary, said once: its functions, and how a reply is packed in a number.
 //!
 //! A packed reply is kind + 256 * number + 65,536 * place + 2^32 * offset. The finder's kinds are BREACH (number: how many
-//! variables; the rows are written, unused places 255), NONE and REFUSED (number and place); it writes rows on a breach only, and
-//! so does the function that gives the next breach after some rows.
+//! variables; the rows are written, unused places 255), NONE and REFUSED (number, place, offset); it writes rows on a breach
+//! only, and so does the function that gives the next breach after some rows.
 //! The normaliser's are WRITTEN (kind + 256 * bytes) and REFUSED; a refusal writes nothing.
 
 pub const WRITTEN: u64 = 0;
@@ -41,8 +41,8 @@ pub fn breach(rows: &[usize]) -> (u64, Rows) {
     (BREACH + 256 * rows.len() as u64, places)
 }
 
-pub fn refused(number: u8, place: usize) -> u64 {
-    REFUSED + 256 * u64::from(number) + 65_536 * place as u64
+pub fn refused(number: u8, place: usize, offset: usize) -> u64 {
+    REFUSED + 256 * u64::from(number) + 65_536 * place as u64 + (1 << 32) * offset as u64
 }
 
 pub fn written(bytes: usize) -> u64 {
@@ -56,7 +56,7 @@ pub fn words(reply: u64) -> String {
         WRITTEN => format!("{} bytes written", reply / 256),
         BREACH if place == 0 && offset == 0 => format!("breach of {} variables", number),
         NONE if reply == NONE => "none".to_string(),
-        REFUSED if offset == 0 => format!("refusal {} at {}", number, place),
+        REFUSED => format!("refusal {} at {}, byte {}", number, place, offset),
         _ => format!("reply of kind {}, number {}, place {}, offset {}", kind, number, place, offset),
     }
 }

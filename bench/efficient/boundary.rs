@@ -24,7 +24,7 @@ pub unsafe extern "C" fn checker_next(bytes: *const u8, length: usize, rows: &mu
 fn packed(found: Found, rows: &mut Rows) -> u64 {
     match found {
         Found::None => NONE,
-        Found::Refused(why) => refused(why.number, why.place as usize),
+        Found::Refused(why) => refused(why.number, why.place as usize, why.offset as usize),
         Found::Breach(variables, found) => {
             *rows = found;
             rows[variables..].fill(UNUSED);
@@ -39,7 +39,7 @@ fn packed(found: Found, rows: &mut Rows) -> u64 {
 pub unsafe extern "C" fn checker_normalise(bytes: *const u8, length: usize, lent: *mut u8, space: usize) -> u64 {
     let lent = std::slice::from_raw_parts_mut(lent, space);
     match efficient::normalise(std::slice::from_raw_parts(bytes, length), lent) {
-        Err(why) => refused(why.number, why.place as usize),
+        Err(why) => refused(why.number, why.place as usize, why.offset as usize),
         Ok(bytes) => boundary::written(bytes),
     }
 }

@@ -12,7 +12,7 @@ pub mod values;
 mod writing;
 
 use model::Model;
-use text::{read, Refusal, Text};
+use text::{read, refusal, Refusal, Text};
 
 #[derive(Clone, Copy, Debug, PartialEq)]
 pub enum Found {
@@ -47,7 +47,7 @@ pub fn next(bytes: &[u8], after: [u16; 4]) -> Found {
 pub fn judge(bytes: &[u8]) -> Result<(Text, Vec<u16>), Refusal> {
     let text = read(bytes)?;
     if text.literals.is_empty() {
-        return Err(Refusal { number: 8, place: 0 });
+        return Err(refusal(8, 0));
     }
     let representatives = consistent(&text)?;
     Ok((text, representatives))
@@ -62,7 +62,7 @@ fn consistent(text: &Text) -> Result<Vec<u16>, Refusal> {
     let representatives = closing::close(&text.rows, &text.equations);
     let same = |pair: &(u16, u16)| representatives[pair.0 as usize] == representatives[pair.1 as usize];
     match text.differences.iter().position(same) {
-        Some(index) => Err(Refusal { number: 9, place: index as u16 + 1 }),
+        Some(index) => Err(refusal(9, index as u16 + 1)),
         None => Ok(representatives),
     }
 }

@@ -4,6 +4,12 @@
 pub struct Refusal {
     pub number: u8,
     pub place: u16,
+    pub offset: u16,
+}
+
+/// One that names no byte: 8 to 10.
+pub fn refusal(number: u8, place: u16) -> Refusal {
+    Refusal { number, place, offset: 0 }
 }
 
 /// Stands in the place of an argument that is not there, and for no class.
@@ -108,15 +114,33 @@ pub fn read(bytes: &[u8]) -> Result<Text, Refusal> {
     let mut line = Line { fields: [0; 16], size: 0, next: 0 };
     while at < bytes.len() {
         place += 1;
-        walk(bytes, at, &mut line)
-            .and_then(|()| take(&mut text, &mut counts, &line, &mut rank))
-            .map_err(|number| Refusal { number, place })?;
+        walk(bytes, at, &mut line).and_then(|()| take(&mut text, &mut counts, &line, &mut rank)).map_err(|number| Refusal {
+            number,
+            place,
+            offset: offset(number, &bytes[at..], &line.fields, &text),
+        })?;
         at = line.next;
         if rank == 1 {
             text.rows_end = at;
         }
     }
     Ok(text)
+}
+
+/// The byte that a refusal of the line names, looked for only where a line is refused.
+fn offset(number: u8, rest: &[u8], fields: &[u8; 16], text: &Text) -> u16 {
+    let bad = match number {
+        1 => rest.iter().position(|byte| DIGITS[*byte as usize] == NO_DIGIT).unwrap_or(rest.len()),
+        6 => 2 * bad_field(fields, text),
+        _ => 0,
+    };
+    bad.min(65_535) as u16
+}
+
+fn bad_field(fields: &[u8; 16], text: &Text) -> usize {
+    let first = if matches!(fields[0], 1 | 5) { 4 } else { 1 };
+    let there = if fields[0] < 4 { text.rows.len() } else { text.patterns.len() };
+    (first..16).find(|field| fields[*field] as usize >= there).unwrap_or(0)
 }
 
 /// Refusal 1: digits in pairs up to a line feed, at least one pair.

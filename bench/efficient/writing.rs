@@ -1,6 +1,6 @@
 //! The normal text, written into lent bytes.
 
-use crate::text::{Refusal, Text};
+use crate::text::{refusal, Refusal, Text};
 
 const LINE: usize = 7;
 
@@ -9,7 +9,7 @@ pub fn write_normal(bytes: &[u8], text: &Text, representatives: &[u16], lent: &m
     let differences = sorted_differences(text, representatives);
     let need = text.rows_end + LINE * (merged + differences.len());
     if need > lent.len() {
-        return Err(Refusal { number: 10, place: 0 });
+        return Err(refusal(10, 0));
     }
     lent[..text.rows_end].copy_from_slice(&bytes[..text.rows_end]);
     let mut lines = lent[text.rows_end..need].chunks_exact_mut(LINE);

@@ -89,7 +89,7 @@ pub fn changed(rows: &Rows) -> String {
 }
 
 pub fn packed(refused: &Refusal) -> u64 {
-    boundary::refused(refused.number, refused.place)
+    boundary::refused(refused.number, refused.place, refused.offset)
 }
 
 fn normaliser_difference(text: &[u8], space: usize) -> Option<String> {

@@ -3,6 +3,7 @@
 use crate::draft::{bytes_of, rank_of, Draft};
 use crate::random::Random;
 use reference::normal::line;
+use reference::text::FURTHEST;
 
 /// Bytes near the digits, and some far from them.
 const NO_DIGITS: [u8; 14] = [b'/', b':', b'@', b'G', b'a', b'f', b'g', b' ', b'\r', b'\t', 0, 0x80, 0xB1, 0xFF];
@@ -299,6 +300,9 @@ pub fn garbage(random: &mut Random) -> Vec<u8> {
 
 /// More bytes than a program takes in, or just as many.
 pub fn long(random: &mut Random, mut bytes: Vec<u8>, limit: usize) -> Vec<u8> {
+    if random.one_in(2) {
+        return long_line(random, bytes);
+    }
     let length = limit + *random.pick(&[1, 1, 2, 100, 5_000]);
     while bytes.len() < length {
         match random.below(3) {
@@ -308,5 +312,19 @@ pub fn long(random: &mut Random, mut bytes: Vec<u8>, limit: usize) -> Vec<u8> {
         }
     }
     bytes.truncate(length);
+    bytes
+}
+
+/// A last line of about as many digits as an offset can say; then, at times, a byte that is no digit, and digits after it.
+fn long_line(random: &mut Random, mut bytes: Vec<u8>) -> Vec<u8> {
+    let digits = FURTHEST - 3 + random.below(7);
+    bytes.resize(bytes.len() + digits, b'0');
+    if random.one_in(2) {
+        bytes.push(*random.pick(&NO_DIGITS));
+        bytes.resize(bytes.len() + random.below(3), b'0');
+    }
+    if random.one_in(2) {
+        bytes.push(b'\n');
+    }
     bytes
 }

@@ -6,7 +6,16 @@
 #[cfg(standin)]
 extern crate standin as _;
 
+extern "C" {
+    fn signal(number: i32, action: usize) -> usize;
+}
+
+const BROKEN_PIPE: i32 = 13;
+const IGNORE: usize = 1;
+
+/// A program may end before it has read a long text: writing on is then an error, as after Rust's start, and no signal.
 #[no_mangle]
 pub extern "C" fn main(_words: i32, _first: *const *const u8) -> i32 {
+    unsafe { signal(BROKEN_PIPE, IGNORE) };
     harness::run()
 }

@@ -114,5 +114,6 @@ pub fn found_line(found: &Found) -> Vec<u8> {
 }
 
 pub fn refusal_line(refused: &Refusal) -> Vec<u8> {
-    normal::line(&[10, refused.number, (refused.place / 256) as u8, (refused.place % 256) as u8])
+    let bytes = |number: usize| [(number / 256) as u8, (number % 256) as u8];
+    normal::line(&[&[10, refused.number], &bytes(refused.place)[..], &bytes(refused.offset)[..]].concat())
 }

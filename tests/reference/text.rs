@@ -2,15 +2,39 @@
 //!
 //! A line's tests stand in `take` in the order of their numbers, each a function of its own.
 
-/// Why a text gets no other reply.
+/// Why a text gets no other reply. The offset is a byte of the line, from 0.
 #[derive(Clone, Debug, PartialEq)]
 pub struct Refusal {
     pub number: u8,
     pub place: usize,
+    pub offset: usize,
 }
 
+/// One that names no byte: 8 to 11.
 pub fn refusal(number: u8, place: usize) -> Refusal {
-    Refusal { number, place }
+    Refusal { number, place, offset: 0 }
+}
+
+/// Where offsets stop.
+pub const FURTHEST: usize = 65_535;
+
+/// What is wrong with a line, and the byte of it that is to be mended.
+struct Fault {
+    number: u8,
+    offset: usize,
+}
+
+/// Refusals 2 to 5 and 7 name the line's first byte.
+impl From<u8> for Fault {
+    fn from(number: u8) -> Fault {
+        Fault { number, offset: 0 }
+    }
+}
+
+impl Fault {
+    fn at(self, place: usize) -> Refusal {
+        Refusal { number: self.number, place, offset: self.offset.min(FURTHEST) }
+    }
 }
 
 /// A symbol over earlier rows.
@@ -59,7 +83,7 @@ pub fn read(bytes: &[u8]) -> Result<Text, Refusal> {
     let mut text = Text::default();
     let mut rank = 0;
     for (index, line) in lines(bytes).into_iter().enumerate() {
-        rank = take(&mut text, rank, line).map_err(|number| refusal(number, index + 1))?;
+        rank = take(&mut text, rank, line).map_err(|fault| fault.at(index + 1))?;
     }
     Ok(text)
 }
@@ -69,9 +93,9 @@ fn lines(bytes: &[u8]) -> Vec<&[u8]> {
     bytes.split_inclusive(|byte| *byte == b'\n').collect()
 }
 
-/// Adds what a line says, and gives the line's rank; or the number of its first fault.
-fn take(text: &mut Text, rank: u8, line: &[u8]) -> Result<u8, u8> {
-    let fields = legible(line)?;
+/// Adds what a line says, and gives the line's rank; or its first fault.
+fn take(text: &mut Text, rank: u8, line: &[u8]) -> Result<u8, Fault> {
+    let fields = legible(line).map_err(|number| Fault { number, offset: bad_byte(line) })?;
     let kind = known(&fields)?;
     sized(kind, &fields)?;
     let rank = ranked(kind, rank)?;
@@ -97,6 +121,11 @@ fn legible(line: &[u8]) -> Result<Vec<u8>, u8> {
     test(!digits.is_empty(), 1)?;
     test(digits.len() % 2 == 0, 1)?;
     digits.chunks(2).map(|pair| Ok(16 * digit(pair[0])? + digit(pair[1])?)).collect()
+}
+
+/// The first byte that is no digit, else the line's length. A line feed is no part of its line.
+fn bad_byte(line: &[u8]) -> usize {
+    line.iter().position(|byte| digit(*byte).is_err()).unwrap_or(line.len())
 }
 
 fn digit(byte: u8) -> Result<u8, u8> {
@@ -151,18 +180,22 @@ fn room(text: &Text, kind: u8, fields: &[u8]) -> Result<(), u8> {
     }
 }
 
-/// Refusal 6.
-fn refers(text: &Text, kind: u8, fields: &[u8]) -> Result<(), u8> {
-    let named = match kind {
-        1 | 5 => &fields[4..],
-        4 => &[],
-        _ => &fields[1..],
+/// Refusal 6. Each field has two digits.
+fn refers(text: &Text, kind: u8, fields: &[u8]) -> Result<(), Fault> {
+    let first = match kind {
+        1 | 5 => 4,
+        4 => 2,
+        _ => 1,
     };
     let there = match kind {
         1 | 2 | 3 => text.rows.len(),
         _ => text.patterns.len(),
     };
-    test(named.iter().all(|row| usize::from(*row) < there), 6)
+    for (field, row) in fields.iter().enumerate().skip(first) {
+        let good = usize::from(*row) < there;
+        test(good, 6).map_err(|number| Fault { number, offset: 2 * field })?;
+    }
+    Ok(())
 }
 
 /// Refusal 7.

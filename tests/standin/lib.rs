@@ -25,7 +25,7 @@ pub unsafe extern "C" fn checker_next(text: *const u8, length: usize, rows: &mut
 fn packed(found: Found, rows: &mut Rows) -> u64 {
     match found {
         Found::None => NONE,
-        Found::Refused(why) => refused(why.number, why.place),
+        Found::Refused(why) => refused(why.number, why.place, why.offset),
         Found::Breach(found) => {
             let (reply, places) = breach(&found);
             *rows = places;
@@ -40,7 +40,7 @@ fn packed(found: Found, rows: &mut Rows) -> u64 {
 pub unsafe extern "C" fn checker_normalise(text: *const u8, length: usize, lent: *mut u8, space: usize) -> u64 {
     let lent = std::slice::from_raw_parts_mut(lent, space);
     match normalise(std::slice::from_raw_parts(text, length), space) {
-        Err(why) => refused(why.number, why.place),
+        Err(why) => refused(why.number, why.place, why.offset),
         Ok(normal) => {
             let bytes = normal.len();
             lent[..bytes].copy_from_slice(&normal);

@@ -55,6 +55,7 @@ told-packed (O.Refused x) none e = absurd (let z : _≡_ {A = ℕ} 10 9 = cc in 
 told-packed (O.Refused x) (refused f) e =
     let n : x .number ≡ f .number = cc in
     let p : x .line ≡ f .place = cc in
+    let o : x .offset ≡ f .offset = cc in
     omega arith
 
 told-handed : (o : Outcome) (r : M.Reply) → toldBy o ≡ toldOf r → (rows : List ℕ) → handedBy o (placesOf r) rows ≡ rowsAfter r rows

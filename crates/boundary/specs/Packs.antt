@@ -13,7 +13,7 @@ use Rattle.normaliser.specs.declared.Written.{Written}
 use Rattle.normaliser.specs.declared.Written.the-variants as W
 
 abbrev pub packedBy : Refusal → ℕ
-packedBy x = 10 + 256 * x .number + 65536 * x .line
+packedBy x = 10 + 256 * x .number + 65536 * x .line + 4294967296 * x .offset
 
 abbrev pub packedOutcome : Outcome → ℕ
 packedOutcome (O.Breach n) = 8 + 256 * n

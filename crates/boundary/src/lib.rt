@@ -6,13 +6,14 @@ ghost use mathlib.Core.Path.{_≡_};
 ghost use Rattle.boundary.specs.Claims.{Answers, Proceeds, Settles};
 ghost use Rattle.boundary.specs.Packs.{packedBy, packedOutcome, handedBy, Small, packedAnswer};
 
-// Kind 10, with the number and the place above it.
+// Kind 10, with the number, the place and the offset above it.
 fn pack_refusal(x: Refusal) -> u64
     ensures { λ r. ⌜ r ≡ packedBy x ⌝ }
 {
     let number = x.number as u64;
     let place = x.line as u64;
-    10 + 256 * number + 65536 * place
+    let offset = x.offset as u64;
+    10 + 256 * number + 65536 * place + 4294967296 * offset
 }
 
 fn pack_outcome(outcome: Outcome) -> u64

@@ -26,12 +26,12 @@ no-nine c k n e j =
     let z : _≡_ {A = ℕ} 8 9 = ap (λ (f : M.Refusal). f .number) (refused-one (refusal 8 0) (refusal 9 n) (judged-one c k (refused (refusal 8 0)) (refused (refusal 9 n)) (some-eight c k e) j)) in
     omega arith
 
-pub some-eight-ruled : ruledBy R.Taken 0 (First 0) ≡ A.Refused (record { number = 8; line = 0 })
+pub some-eight-ruled : ruledBy R.Taken 0 (First 0) ≡ A.Refused (record { number = 8; line = 0; offset = 0 })
 some-eight-ruled = refl
 
 abbrev numberOf : Answer → ℕ
 numberOf A.Ready = 0
 numberOf (A.Refused x) = x .number
 
-pub no-nine-ruled : ruledBy R.Taken 0 (First 0) ≡ A.Refused (record { number = 9; line = 1 }) → ⊥
+pub no-nine-ruled : ruledBy R.Taken 0 (First 0) ≡ A.Refused (record { number = 9; line = 1; offset = 0 }) → ⊥
 no-nine-ruled e = let z : _≡_ {A = ℕ} 8 9 = ap numberOf e in omega arith

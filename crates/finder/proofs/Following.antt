@@ -17,7 +17,7 @@ use Rattle.meaning.specs.Rules.{Clause, variables, Before, Found, found, nothin
 use Rattle.meaning.specs.ByTable.{apartBy}
 use Rattle.meaning.specs.Text.{narrow, Read}
 use Rattle.meaning.specs.Replies as M
-use Rattle.meaning.specs.Replies.{breach, none, refused, refusal, replyOf, placesOf}
+use Rattle.meaning.specs.Replies.{breach, none, refused, replyOf, placesOf}
 use Rattle.meaning.specs.Listing.{OwnBreach}
 use Rattle.meaning.proofs.Answered.{replies-one}
 use Rattle.meaning.proofs.Order.{same-first, first-one}
@@ -26,6 +26,7 @@ use Rattle.meaning.proofs.ListingNext.{next-first, own-sought}
 use Rattle.ledger.specs.declared.ContextColumns.{ContextColumns}
 use Rattle.ledger.specs.declared.ClauseColumns.{ClauseColumns}
 use Rattle.ledger.specs.declared.Refusal.{Refusal}
+use Rattle.ledger.specs.Phases.{meant}
 use Rattle.search.specs.Hunting.{answerOf}
 use Rattle.search.specs.Finding.{foundBy, laterBy, NextIn, next-fits, next-unfits}
 use Rattle.search.specs.declared.Reply.{Reply as Searched}
@@ -71,8 +72,8 @@ module _ (text : List ℕ) (p : Prepared) (prepares : Prepares text p) where
   unfolding refusedWith placesOf
   next-refused x e after y q =
       rw q record {
-        reply = refused (refusal (x .number) (x .line));
-        replies = refuses (refusal (x .number) (x .line)) (refused-answers text p prepares x e);
+        reply = refused (meant x);
+        replies = refuses (meant x) (refused-answers text p prepares x e);
         told = refl;
         places = refl;
       }

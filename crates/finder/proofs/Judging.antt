@@ -10,11 +10,12 @@ use native.Mathlib.Omega.{arith}
 use borrow.Author.Needs.{needs}
 use Rattle.meaning.specs.Rules.{Found, found, nothing}
 use Rattle.meaning.specs.Text.{narrow}
-use Rattle.meaning.specs.Replies.{breach, none, refused, refusal, replyOf, placesOf, Replies}
+use Rattle.meaning.specs.Replies.{breach, none, refused, replyOf, placesOf, Replies}
 use Rattle.meaning.proofs.Answered.{replies-one}
 use Rattle.ledger.specs.declared.ContextColumns.{ContextColumns}
 use Rattle.ledger.specs.declared.ClauseColumns.{ClauseColumns}
 use Rattle.ledger.specs.declared.Refusal.{Refusal}
+use Rattle.ledger.specs.Phases.{meant}
 use Rattle.search.specs.Hunting.{answerOf}
 use Rattle.search.specs.Finding.{foundBy, FindsIn, fits, unfits}
 use Rattle.search.specs.declared.Kind.{Kind}
@@ -53,7 +54,7 @@ module _ (text : List ℕ) (p : Prepared) (prepares : Prepares text p) where
   pub find-refused : (x : Refusal) → p .answer ≡ A.Refused x → (y : Reply) → y ≡ refusedWith x → Finds text y
   unfolding refusedWith placesOf
   find-refused x e y q =
-      rw q record { reply = refused (refusal (x .number) (x .line)); replies = refused-answers text p prepares x e; told = refl; places = refl }
+      rw q record { reply = refused (meant x); replies = refused-answers text p prepares x e; told = refl; places = refl }
 
   pub find-found : p .answer ≡ A.Ready → (x : Searched) → x ≡ answerOf (foundBy (said (p .context)) (p .table) (asked (p .clause)))
       → (y : Reply) → y ≡ answeredWith (x .kind) (x .places) → Finds text y
@@ -78,7 +79,8 @@ told-one (O.Refused x) O.Clear e = absurd (let z : _≡_ {A = ℕ} 0 1 = cc in o
 told-one (O.Refused x) (O.Refused y) e =
     let n : x .number ≡ y .number = cc in
     let l : x .line ≡ y .line = cc in
-    ap O.Refused (rw (n, l))
+    let o : x .offset ≡ y .offset = cc in
+    ap O.Refused (rw (n, l, o))
 
 pub finds-one : (text : List ℕ) (r s : Reply) → Finds text r → Finds text s → r ≡ s
 finds-one text r s p q =

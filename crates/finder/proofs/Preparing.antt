@@ -30,6 +30,7 @@ use Rattle.ledger.specs.Columns.{noContext}
 use Rattle.ledger.specs.declared.ContextColumns.{ContextColumns}
 use Rattle.ledger.specs.declared.ClauseColumns.{ClauseColumns}
 use Rattle.ledger.specs.declared.Refusal.{Refusal}
+use Rattle.ledger.specs.Phases.{meant}
 use Rattle.reader.specs.Reads as Reads
 use Rattle.reader.specs.declared.Answer.{Answer as Said}
 use Rattle.reader.specs.declared.Answer.the-variants as R
@@ -48,7 +49,7 @@ use Rattle.finder.proofs.Holding.{read-said, read-held, classes-promise
 
 -- ---- the parts
 
-pub unless-eight : (literals : ℕ) (other : Answer) → literals ≡ 0 → A.Refused (record { number = 8; line = 0 }) ≡ unlessEmpty literals other
+pub unless-eight : (literals : ℕ) (other : Answer) → literals ≡ 0 → A.Refused (record { number = 8; line = 0; offset = 0 }) ≡ unlessEmpty literals other
 unless-eight literals other e = rw e
 
 pub unless-other : (literals : ℕ) (other : Answer) → (literals ≡ 0 → ⊥) → other ≡ unlessEmpty literals other
@@ -58,7 +59,7 @@ unless-other (suc m) other n = refl
 pub judge-fits : (r : Contradiction) (n : ℕ) → Low r → r ≡ First n → Fits w16 (n + 1)
 judge-fits r n h e = omega (arith, h .low n e)
 
-pub judge-first : (literals n : ℕ) (r : Contradiction) → r ≡ First n → (y : Answer) → y ≡ unlessEmpty literals (A.Refused (record { number = 9; line = n + 1 }))
+pub judge-first : (literals n : ℕ) (r : Contradiction) → r ≡ First n → (y : Answer) → y ≡ unlessEmpty literals (A.Refused (record { number = 9; line = n + 1; offset = 0 }))
     → y ≡ judgedBy literals r
 judge-first literals n r e y q = q ∙ sym (ap (judgedBy literals) e)
 
@@ -138,19 +139,21 @@ module _ (text : List ℕ) (r : Reading) (reads : Reads.Reads text r) where
       go (faulty f) e = subst Held (sym (faulty-is f e)) none-held
       go (taken s) e = subst Held (sym (reads .context ∙ ap Reads.contextOf e)) (read-held text s e)
 
-  refused-replies : (x : Refusal) → r .answer ≡ R.Refused x → Replies narrow text (refused (refusal (x .number) (x .line)))
+  refused-replies : (x : Refusal) → r .answer ≡ R.Refused x → Replies narrow text (refused (meant x))
   refused-replies x e = go (read narrow text) refl
     where
-      told : (y : M.Reading) → read narrow text ≡ y → x .number ∷ x .line ∷ [] ≡ Reads.toldOf y
+      told : (y : M.Reading) → read narrow text ≡ y → x .number ∷ x .line ∷ x .offset ∷ [] ≡ Reads.toldOf y
       told y q = sym (ap Reads.toldBy e) ∙ reads .told ∙ ap Reads.toldOf q
 
-      go : (y : M.Reading) → read narrow text ≡ y → Replies narrow text (refused (refusal (x .number) (x .line)))
+      go : (y : M.Reading) → read narrow text ≡ y → Replies narrow text (refused (meant x))
       go (faulty f) q =
-          let v : x .number ∷ x .line ∷ [] ≡ f .number ∷ f .place ∷ [] = told (faulty f) q in
+          let v : x .number ∷ x .line ∷ x .offset ∷ [] ≡ f .number ∷ f .place ∷ f .offset ∷ [] = told (faulty f) q in
           let n : x .number ≡ f .number = cc in
           let p : x .line ≡ f .place = cc in
-          subst (λ (z : M.Reading). RepliesTo z (refused (refusal (x .number) (x .line)))) (sym q) (ap₂ (λ (i j : ℕ). refused (refusal i j)) n p)
-      go (taken s) q = absurd (let v : x .number ∷ x .line ∷ [] ≡ [] = told (taken s) q in let z : _≡_ {A = ℕ} 0 1 = cc in omega arith)
+          let o : x .offset ≡ f .offset = cc in
+          let m : meant x ≡ f = rw (n, p, o) in
+          subst (λ (z : M.Reading). RepliesTo z (refused (meant x))) (sym q) (ap refused m)
+      go (taken s) q = absurd (let v : x .number ∷ x .line ∷ x .offset ∷ [] ≡ [] = told (taken s) q in let z : _≡_ {A = ℕ} 0 1 = cc in omega arith)
 
   module _ (s : Read) (e : read narrow text ≡ taken s) where
     context-is : said (r .context) ≡ s .ledger .context
@@ -177,10 +180,10 @@ module _ (text : List ℕ) (r : Reading) (reads : Reads.Reads text r) where
     judged-ruled s e = go (r .clause .literals) refl x refl
       where
         go : (m : ℕ) → r .clause .literals ≡ m → (w : Contradiction) → x ≡ w → Ruled text (judgedBy m w)
-        go zero l (First n) q = refuses (record { number = 8; line = 0 }) (judged-replies s e (refused (refusal 8 0)) (judged-eight (r .context) (r .clause) (taken-asks s e) l))
-        go zero l Clear q = refuses (record { number = 8; line = 0 }) (judged-replies s e (refused (refusal 8 0)) (judged-eight (r .context) (r .clause) (taken-asks s e) l))
+        go zero l (First n) q = refuses (record { number = 8; line = 0; offset = 0 }) (judged-replies s e (refused (refusal 8 0)) (judged-eight (r .context) (r .clause) (taken-asks s e) l))
+        go zero l Clear q = refuses (record { number = 8; line = 0; offset = 0 }) (judged-replies s e (refused (refusal 8 0)) (judged-eight (r .context) (r .clause) (taken-asks s e) l))
         go (suc m) l (First n) q =
-            refuses (record { number = 9; line = n + 1 })
+            refuses (record { number = 9; line = n + 1; offset = 0 })
             (judged-replies s e (refused (refusal 9 (n + 1)))
             (judged-nine (r .context) (r .clause) (taken-asks s e) (z .table) promise x clash (λ h. omega arith) n q))
         go (suc m) l Clear q =
@@ -194,7 +197,7 @@ module _ (text : List ℕ) (r : Reading) (reads : Reads.Reads text r) where
         taken-read : r .answer ≡ R.Taken → (y : M.Reading) → read narrow text ≡ y → Ruled text (judgedBy (r .clause .literals) x)
         taken-read a (taken s) q = judged-ruled s q
         taken-read a (faulty f) q =
-            absurd (let v : [] ≡ f .number ∷ f .place ∷ [] = sym (ap Reads.toldBy a) ∙ reads .told ∙ ap Reads.toldOf q in let z : _≡_ {A = ℕ} 0 1 = cc in omega arith)
+            absurd (let v : [] ≡ f .number ∷ f .place ∷ f .offset ∷ [] = sym (ap Reads.toldBy a) ∙ reads .told ∙ ap Reads.toldOf q in let z : _≡_ {A = ℕ} 0 1 = cc in omega arith)
 
         go : (a : Said) → r .answer ≡ a → Ruled text (ruledBy a (r .clause .literals) x)
         go (R.Refused y) a = refuses y (refused-replies y a)
@@ -245,11 +248,11 @@ module _ (text : List ℕ) (p : Prepared) (prepares : Prepares text p) where
       (answers (w .some) (w .consistent) f
       (subst₂ (λ (c : Context) (k : Clause). Answers c k f) (w .context) (w .clause) (first-answers (p .context) (p .clause) (w .asks) (p .table) (prepares .closed))))
 
-  pub refused-answers : (x : Refusal) → p .answer ≡ A.Refused x → Replies narrow text (refused (refusal (x .number) (x .line)))
+  pub refused-answers : (x : Refusal) → p .answer ≡ A.Refused x → Replies narrow text (refused (meant x))
   refused-answers x e = go (p .answer) e (prepares .ruled)
     where
-      go : (a : Answer) → a ≡ A.Refused x → Ruled text a → Replies narrow text (refused (refusal (x .number) (x .line)))
-      go a q (refuses y w) = let v : y ≡ x = cc in subst (λ (y : Refusal). Replies narrow text (refused (refusal (y .number) (y .line)))) v w
+      go : (a : Answer) → a ≡ A.Refused x → Ruled text a → Replies narrow text (refused (meant x))
+      go a q (refuses y w) = let v : y ≡ x = cc in subst (λ (y : Refusal). Replies narrow text (refused (meant y))) v w
       go a q (ready s f n w) = absurd (let z : _≡_ {A = ℕ} 0 1 = cc in omega arith)
 
 -- ---- one answer
@@ -273,14 +276,15 @@ refused-one f g e = cc
 
 pub ruled-one : (text : List ℕ) (a b : Answer) → Ruled text a → Ruled text b → a ≡ b
 ruled-one text a b (refuses x p) (refuses y q) =
-    let f : M.Refusal = refusal (x .number) (x .line) in
-    let g : M.Refusal = refusal (y .number) (y .line) in
+    let f : M.Refusal = meant x in
+    let g : M.Refusal = meant y in
     let e : f ≡ g = refused-one f g (replies-one narrow text (refused f) (refused g) p q) in
     let n : x .number ≡ y .number = ap (λ (h : M.Refusal). h .number) e in
     let l : x .line ≡ y .line = ap (λ (h : M.Refusal). h .place) e in
-    ap A.Refused (rw (n, l))
-ruled-one text a b (refuses x p) (ready s e n c) = absurd (never-ready text s e n c (refusal (x .number) (x .line)) p)
-ruled-one text a b (ready s e n c) (refuses x p) = absurd (never-ready text s e n c (refusal (x .number) (x .line)) p)
+    let o : x .offset ≡ y .offset = ap (λ (h : M.Refusal). h .offset) e in
+    ap A.Refused (rw (n, l, o))
+ruled-one text a b (refuses x p) (ready s e n c) = absurd (never-ready text s e n c (meant x) p)
+ruled-one text a b (ready s e n c) (refuses x p) = absurd (never-ready text s e n c (meant x) p)
 ruled-one text a b (ready s e n c) (ready t f m d) = refl
 
 same-parts : {a b : Answer} {c d : ContextColumns} {k l : ClauseColumns} {t u : List ℕ} → a ≡ b → c ≡ d → k ≡ l → t ≡ u

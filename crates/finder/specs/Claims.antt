@@ -4,7 +4,7 @@
 --     ClosedIn           a closing's answer to them
 --     Asks               and the clause's are, too
 --     refusedWith, answeredWith   the reply that is a refusal, and the one that a search's answer gives
---     toldBy, toldOf     document 01's number for each reply, with a breach's number of variables, or a refusal's number and place
+--     toldBy, toldOf     document 01's number for each reply, with a breach's number of variables, or a refusal's number, place and byte
 --     Ruled              a text is refused before anything is searched for, or its rule is ready
 --     Prepares           what was read, every place of the columns included, and the representatives
 --     Finds              the reply to a text, with the four places handed over
@@ -19,7 +19,7 @@ use Rattle.meaning.specs.Columns.{contextFrom, clauseFrom}
 use Rattle.meaning.specs.Equality.{Consistent, Promise}
 use Rattle.meaning.specs.Text.{narrow, Read, taken, read}
 use Rattle.meaning.specs.Replies as M
-use Rattle.meaning.specs.Replies.{breach, none, refused, refusal, placesOf, Replies}
+use Rattle.meaning.specs.Replies.{breach, none, refused, placesOf, Replies}
 use Rattle.meaning.specs.Formed.{Formed}
 use Rattle.reader.specs.Reads.{contextOf, clauseIn}
 use Rattle.closing.specs.Claims.{Closes}
@@ -30,6 +30,7 @@ use Rattle.search.specs.declared.Kind.the-variants as S
 use Rattle.ledger.specs.declared.ContextColumns.{ContextColumns}
 use Rattle.ledger.specs.declared.ClauseColumns.{ClauseColumns}
 use Rattle.ledger.specs.declared.Refusal.{Refusal}
+use Rattle.ledger.specs.Phases.{meant}
 use Rattle.finder.specs.declared.Answer.{Answer}
 use Rattle.finder.specs.declared.Answer.the-variants as A
 use Rattle.finder.specs.declared.Prepared.{Prepared}
@@ -68,16 +69,16 @@ answeredWith S.Unfit places = record { outcome = Clear; places = places }
 abbrev pub toldBy : Outcome → List ℕ
 toldBy (Breach n) = 8 ∷ n ∷ []
 toldBy Clear = 9 ∷ []
-toldBy (Refused x) = 10 ∷ x .number ∷ x .line ∷ []
+toldBy (Refused x) = 10 ∷ x .number ∷ x .line ∷ x .offset ∷ []
 
 abbrev pub toldOf : M.Reply → List ℕ
 toldOf (breach a) = 8 ∷ length a ∷ []
 toldOf none = 9 ∷ []
-toldOf (refused r) = 10 ∷ r .number ∷ r .place ∷ []
+toldOf (refused r) = 10 ∷ r .number ∷ r .place ∷ r .offset ∷ []
 
 -- as the finder replies to it; where it is ready, the finder's reply is a breach or none
 pub data Ruled (text : List ℕ) : Answer → Type 0 where
-  refuses : (x : Refusal) → Replies narrow text (refused (refusal (x .number) (x .line))) → Ruled text (A.Refused x)
+  refuses : (x : Refusal) → Replies narrow text (refused (meant x)) → Ruled text (A.Refused x)
   ready : (s : Read) → read narrow text ≡ taken s → (s .clause .literals ≡ [] → ⊥) → Consistent (s .ledger .context) → Ruled text A.Ready
 
 -- where the reader refuses, the columns are those of the empty text, and the table holds each place's own number

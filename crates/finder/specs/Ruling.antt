@@ -15,11 +15,11 @@ pub record Low (r : Contradiction) : Type 0 where
   pub low : (n : ℕ) → r ≡ First n → n < 510
 
 abbrev pub unlessEmpty : ℕ → Answer → Answer
-unlessEmpty zero other = Refused (record { number = 8; line = 0 })
+unlessEmpty zero other = Refused (record { number = 8; line = 0; offset = 0 })
 unlessEmpty (suc n) other = other
 
 abbrev pub judgedBy : ℕ → Contradiction → Answer
-judgedBy literals (First n) = unlessEmpty literals (Refused (record { number = 9; line = n + 1 }))
+judgedBy literals (First n) = unlessEmpty literals (Refused (record { number = 9; line = n + 1; offset = 0 }))
 judgedBy literals Clear = unlessEmpty literals Ready
 
 abbrev pub ruledBy : Said → ℕ → Contradiction → Answer

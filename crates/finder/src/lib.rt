@@ -164,7 +164,11 @@ fn unless_empty(literals: usize, other: Answer) -> Answer
     ensures { λ r. ⌜ r ≡ unlessEmpty literals other ⌝ }
 {
     if literals == 0 {
-        let x = Refusal { number: 8, line: 0 };
+        let x = Refusal {
+            number: 8,
+            line: 0,
+            offset: 0,
+        };
         return Answer::Refused(x);
     }
     other
@@ -180,6 +184,7 @@ fn judge(literals: usize, clash: Contradiction) -> Answer
             let x = Refusal {
                 number: 9,
                 line: n + 1,
+                offset: 0,
             };
             unless_empty(literals, Answer::Refused(x))
         }

@@ -4,18 +4,19 @@
 --     from-cons     so does any byte that is no line feed
 --     byte-begins   what was read of a line is how the line begins
 --     all-nowhere   among digits no byte fails
---     fails-inside  where a byte is no digit, some byte fails
+--     fails-after   a byte that is no digit, after digits, is the first that fails
 -- Assumes nothing.
 use mathlib.Core.Bool.{Bool, true, false}
 use mathlib.Core.List.{List, [], _∷_, _++_, append-assoc, append-nil}
-use mathlib.Core.Path.{_≡_, refl, subst, _∙_}
+use mathlib.Core.Path.{_≡_, refl, ap, subst, _∙_}
 use Prim.Native.Nat.{ℕ, zero, suc, _+_, _<_, _≤_}
-use native.Mathlib.Nat.{le-of-suc-le-suc, not-suc-le-zero}
+use native.Mathlib.Nat.{le-of-suc-le-suc, not-suc-le-zero, add-zero}
 use native.Mathlib.Omega.{arith}
 use lib.Dec.{eqb, ltb}
 use lib.ListN.{length, getD, take, drop}
 use borrow.Author.Tests.{lt-ltb, le-ltb, ne-eqb}
-use Rattle.meaning.specs.Text.{Line, linesFrom, digit, firstFailing, isNowhere, nowhere, linefeed}
+use Rattle.meaning.specs.Text as M
+use Rattle.meaning.specs.Text.{Line, linesFrom, digit, firstFailing, nowhere, linefeed}
 
 abbrev pub AllDigits : List ℕ → Type 0
 AllDigits l = (k : ℕ) → k < length l → digit (getD l k 0) < 16
@@ -75,12 +76,9 @@ unfolding firstFailing
 all-nowhere i [] d = refl
 all-nowhere i (b ∷ l) d = rw (lt-ltb (digit b) 16 (d 0 (omega arith)), firstFailing) (all-nowhere (suc i) l (λ k h. d (suc k) (omega arith)))
 
-pub fails-inside : (i : ℕ) (l : List ℕ) (b : ℕ) (y : List ℕ) → 16 ≤ digit b → isNowhere (firstFailing isDigit i (l ++ (b ∷ y))) ≡ false
-unfolding firstFailing isNowhere
-fails-inside i [] b y h = rw (le-ltb (digit b) 16 h, firstFailing)
-fails-inside i (a ∷ l) b y h = go (isDigit a) refl (fails-inside (suc i) l b y h)
-  where
-    go : (t : Bool) → isDigit a ≡ t → isNowhere (firstFailing isDigit (suc i) (l ++ (b ∷ y))) ≡ false
-        → isNowhere (firstFailing isDigit i (a ∷ (l ++ (b ∷ y)))) ≡ false
-    go true e r = rw (e, firstFailing) r
-    go false e r = rw (e, firstFailing)
+pub fails-after : (i : ℕ) (l : List ℕ) (b : ℕ) (y : List ℕ) → AllDigits l → 16 ≤ digit b → firstFailing isDigit i (l ++ (b ∷ y)) ≡ M.at (i + length l)
+unfolding firstFailing
+fails-after i [] b y d h = rw (le-ltb (digit b) 16 h, firstFailing, add-zero)
+fails-after i (a ∷ l) b y d h =
+    let e : suc i + length l ≡ i + suc (length l) = omega arith in
+    rw (lt-ltb (digit a) 16 (d 0 (omega arith)), firstFailing) (fails-after (suc i) l b y (λ k g. d (suc k) (omega arith)) h ∙ ap M.at e)

@@ -119,11 +119,11 @@ module _ (clashes : ℕ → ℕ → ℕ) (t : Termed) where
   none : (e : Term) (r : ℕ) → t ≡ Is e → r ≡ clashes (e .head) (e .count) → r ≡ 0 → Is e ≡ agreeing clashes t
   none e r f g h = rw (f, ← g, h)
 
-  some : (e : Term) (r : ℕ) → t ≡ Is e → r ≡ clashes (e .head) (e .count) → (r ≡ 0 → ⊥) → Refused 7 ≡ agreeing clashes t
+  some : (e : Term) (r : ℕ) → t ≡ Is e → r ≡ clashes (e .head) (e .count) → (r ≡ 0 → ⊥) → Refused 7 0 ≡ agreeing clashes t
   some e r f g h = rw (f, ← g, ne-eqb _ _ h)
 
-  before : (x : ℕ) → t ≡ Refused x → t ≡ agreeing clashes t
-  before x f = rw f
+  before : (x o : ℕ) → t ≡ Refused x o → t ≡ agreeing clashes t
+  before x o f = rw f
 
 module _ (symbols counts : List ℕ) (n : ℕ) (t : Termed) where
   pub rows-none : (e : Term) (r : ℕ) → t ≡ Is e → r ≡ rowClashes symbols counts (e .head) (e .count) n → r ≡ 0 → Is e ≡ agreeRows symbols counts n t
@@ -131,13 +131,13 @@ module _ (symbols counts : List ℕ) (n : ℕ) (t : Termed) where
   rows-none e r f g h = none (λ f k. rowClashes symbols counts f k n) t e r f g h
 
   pub rows-some : (e : Term) (r : ℕ) → t ≡ Is e → r ≡ rowClashes symbols counts (e .head) (e .count) n → (r ≡ 0 → ⊥)
-      → Refused 7 ≡ agreeRows symbols counts n t
+      → Refused 7 0 ≡ agreeRows symbols counts n t
   unfolding agreeRows
   rows-some e r f g h = some (λ f k. rowClashes symbols counts f k n) t e r f g h
 
-  pub rows-before : (x : ℕ) → t ≡ Refused x → t ≡ agreeRows symbols counts n t
+  pub rows-before : (x o : ℕ) → t ≡ Refused x o → t ≡ agreeRows symbols counts n t
   unfolding agreeRows
-  rows-before x f = before (λ f k. rowClashes symbols counts f k n) t x f
+  rows-before x o f = before (λ f k. rowClashes symbols counts f k n) t x o f
 
 module _ (kinds heads counts : List ℕ) (n : ℕ) (t : Termed) where
   pub patterns-none : (e : Term) (r : ℕ) → t ≡ Is e → r ≡ patternClashes kinds heads counts (e .head) (e .count) n → r ≡ 0
@@ -146,13 +146,13 @@ module _ (kinds heads counts : List ℕ) (n : ℕ) (t : Termed) where
   patterns-none e r f g h = none (λ f k. patternClashes kinds heads counts f k n) t e r f g h
 
   pub patterns-some : (e : Term) (r : ℕ) → t ≡ Is e → r ≡ patternClashes kinds heads counts (e .head) (e .count) n → (r ≡ 0 → ⊥)
-      → Refused 7 ≡ agreePatterns kinds heads counts n t
+      → Refused 7 0 ≡ agreePatterns kinds heads counts n t
   unfolding agreePatterns
   patterns-some e r f g h = some (λ f k. patternClashes kinds heads counts f k n) t e r f g h
 
-  pub patterns-before : (x : ℕ) → t ≡ Refused x → t ≡ agreePatterns kinds heads counts n t
+  pub patterns-before : (x o : ℕ) → t ≡ Refused x o → t ≡ agreePatterns kinds heads counts n t
   unfolding agreePatterns
-  patterns-before x f = before (λ f k. patternClashes kinds heads counts f k n) t x f
+  patterns-before x o f = before (λ f k. patternClashes kinds heads counts f k n) t x o f
 
 pub ruleset mine = (
   needs,

@@ -2,26 +2,32 @@
 --     Scan                              the bytes from where the line begins to before a place are digits
 --     scan-start, scan-step             it holds at first, and one digit later
 --     scan-stop, scan-done              a byte that is no digit, or the end of the text, ends the run
+--     bad-near, bad-far                 the byte that refusal 1 names, and its stop at 65,535
 --     line-open, line-other, line-none, line-odd   the ways in which a line is refused by 1
 --     line-ends                         a legible line
 -- Assumes nothing.
-use mathlib.Core.Bool.{Bool, true, false, _&&_}
+use mathlib.Core.Bool.{Bool, true, false}
 use mathlib.Core.List.{List, [], _∷_, _++_, append-assoc}
 use mathlib.Core.Path.{_≡_, refl, sym, ap, _∙_}
-use Prim.Native.Nat.{ℕ, suc, _+_, _-_, _%_, _<_, _≤_}
+use Prim.Native.Nat.{ℕ, suc, _+_, _-_, _%_, _<_, _≤_, min}
+use native.Mathlib.Nat.{zero-add}
 use native.Mathlib.Omega.{arith}
 use lib.Dec.{eqb, ltb}
 use lib.ListN.{length, getD, take, drop, length-drop, drop-of-length-le}
 use lib.Seq.{drop-cons, drop-drop, getD-take, getD-drop, length-take-le}
 use borrow.Author.Needs.{needs}
 use borrow.Author.Tests.{ne-eqb, eqb-true, eqb-false}
-use Rattle.meaning.specs.Text.{Line, linesOf, linesFrom, digit, nonDigit, isNowhere, legible}
+use Rattle.meaning.specs.Text as M
+use Rattle.meaning.specs.Text.{Line, linesOf, linesFrom, digit, spotOr, nonDigit, isNowhere, legible, badByte, furthest}
+use Rattle.meaning.proofs.Logic.{and-false}
 use Rattle.frames.specs.Digits.{digitOf}
-use Rattle.frames.specs.Lines.{Digits, Run, Legible, Illegible}
+use Rattle.frames.specs.Lines.{Digits, Run, Legible, Illegible, LineAt}
 use Rattle.frames.specs.declared.digits.Digit.{Digit}
 use Rattle.frames.specs.declared.digits.Digit.the-variants.{Value, Not}
+use Rattle.frames.specs.declared.lines.Line as Answer
+use Rattle.frames.specs.declared.lines.Line.the-variants.{Bad}
 use Rattle.frames.proofs.Hex.{digit-value, digit-not}
-use Rattle.frames.proofs.Breaks.{AllDigits, digits-on, feed-ends, from-cons, byte-begins, fails-inside}
+use Rattle.frames.proofs.Breaks.{AllDigits, digits-on, feed-ends, from-cons, byte-begins, all-nowhere, fails-after}
 
 lt-of-le-ne : (k i : ℕ) → k ≤ i → (k ≡ i → ⊥) → k < i
 lt-of-le-ne k i h n = omega arith
@@ -71,10 +77,6 @@ module _ (text : List ℕ) (at end : ℕ) (from : at ≤ end) (inside : end ≤ 
       digits-on (end - at) [] (drop at text) (simp length-drop (omega arith)) (part-digits d)
       ∙ ap (λ (u : List ℕ). linesFrom (part text at end) u) (drop-drop (end - at) at text ∙ ap (λ (n : ℕ). drop n text) joined)
 
-and-false : (x : Bool) → x && false ≡ false
-and-false true = refl
-and-false false = refl
-
 -- a line is not legible where it has no line feed, or a byte that is no digit, or an odd number of digits or none
 not-ended : (line : Line) → line .ended ≡ false → legible line ≡ false
 unfolding legible
@@ -99,6 +101,21 @@ unfolding linesOf
 run-lines text at end a h d f =
     part-lines text at end a (omega arith) d ∙ rw (drop-cons text end 0 h, f) (feed-ends (part text at end) (drop (suc end) text))
 
+-- digits alone: as many as there are; digits and then another byte: where that byte stands
+digits-byte : (line : Line) → AllDigits (line .bytes) → badByte line ≡ length (line .bytes)
+unfolding badByte nonDigit spotOr
+digits-byte line d = rw (all-nowhere 0 (line .bytes) d)
+
+after-spot : (l y : List ℕ) (b : ℕ) → AllDigits l → 16 ≤ digit b → nonDigit ((l ++ (b ∷ [])) ++ y) ≡ M.at (length l)
+unfolding nonDigit
+after-spot l y b d h = rw append-assoc (fails-after 0 l b y d h ∙ rw zero-add)
+
+pub bad-near : (n : ℕ) → n < 65535 → Bad n ≡ Bad (min furthest n)
+bad-near n h = ap Bad (omega arith)
+
+pub bad-far : (n : ℕ) → 65535 ≤ n → Bad 65535 ≡ Bad (min furthest n)
+bad-far n h = ap Bad (omega arith)
+
 module _ (text : List ℕ) (at end : ℕ) (r : Run text at end) where
   long : length (part text at end) ≡ end - at
   long = part-length text at end (r .from) (r .inside)
@@ -106,41 +123,52 @@ module _ (text : List ℕ) (at end : ℕ) (r : Run text at end) where
   lines-of : linesOf (drop at text) ≡ linesFrom (part text at end) (drop end text)
   lines-of = part-lines text at end (r .from) (r .inside) (r .digits)
 
-  open-line : (l : List ℕ) → linesOf (drop at text) ≡ linesFrom l [] → 0 < length l → Illegible text at
+  digits-in : AllDigits (part text at end)
+  digits-in = part-digits text at end (r .from) (r .inside) (r .digits)
+
+  stop-byte : (line : Line) → line .bytes ≡ part text at end → min furthest (badByte line) ≡ min furthest (end - at)
+  stop-byte line e = ap (min furthest) (digits-byte line (rw e digits-in) ∙ ap length e ∙ long)
+
+  open-line : (l : List ℕ) → l ≡ part text at end → linesOf (drop at text) ≡ linesFrom l [] → 0 < length l → Illegible text at (min furthest (end - at))
   unfolding linesFrom
-  open-line [] e h = absurd (omega arith)
-  open-line (a ∷ l) e h = record { line = record { bytes = a ∷ l; ended = false }; later = []; lines = e; bad = not-ended _ refl }
+  open-line [] i e h = absurd (omega arith)
+  open-line (a ∷ l) i e h =
+      record { line = record { bytes = a ∷ l; ended = false }; later = []; lines = e; bad = not-ended _ refl; byte = stop-byte _ i }
 
-  pub line-open : at < length text → length text ≤ end → Illegible text at
-  line-open g h = open-line (part text at end) (lines-of ∙ rw (drop-of-length-le text h)) (omega (arith, long))
-
-  other : (b : ℕ) (l u : List ℕ) → 16 ≤ digit b → (b ≡ 10 → ⊥) → linesOf (drop at text) ≡ linesFrom l (b ∷ u) → Illegible text at
-  unfolding nonDigit
-  other b l u d n e =
+  other : (b : ℕ) (l u : List ℕ) → length l ≡ end - at → AllDigits l → 16 ≤ digit b → (b ≡ 10 → ⊥) → linesOf (drop at text) ≡ linesFrom l (b ∷ u)
+      → Illegible text at (min furthest (end - at))
+  unfolding isNowhere badByte spotOr
+  other b l u i g d n e =
       let w = byte-begins l b u in
-      let f : isNowhere (nonDigit ((l ++ (b ∷ [])) ++ w .rest)) ≡ false = rw append-assoc (fails-inside 0 l b (w .rest) d) in
+      let f = after-spot l (w .rest) b g d in
       record {
         line = record { bytes = (l ++ (b ∷ [])) ++ w .rest; ended = w .feed };
         later = w .later;
         lines = e ∙ from-cons l b u (ne-eqb b 10 n) ∙ w .lines;
-        bad = not-digits _ f;
+        bad = not-digits _ (rw f);
+        byte = rw (f, i);
       }
 
-  pub line-other : end < length text → (getD text end 0 ≡ 10 → ⊥) → Illegible text at
-  line-other h n =
-      other (getD text end 0) (part text at end) (drop (suc end) text) (r .stops h) n (lines-of ∙ rw (drop-cons text end 0 h))
+  module _ (l : Answer.Line) (e : l ≡ Bad (min furthest (end - at))) where
+    pub line-open : at < length text → length text ≤ end → LineAt text at l
+    line-open g h = rw e (open-line (part text at end) refl (lines-of ∙ rw (drop-of-length-le text h)) (omega (arith, long)))
+
+    pub line-other : end < length text → (getD text end 0 ≡ 10 → ⊥) → LineAt text at l
+    line-other h n =
+        rw e (other (getD text end 0) (part text at end) (drop (suc end) text) long digits-in (r .stops h) n (lines-of ∙ rw (drop-cons text end 0 h)))
 
   module _ (h : end < length text) (f : getD text end 0 ≡ 10) where
     feed-lines : linesOf (drop at text) ≡ record { bytes = part text at end; ended = true } ∷ linesOf (drop (suc end) text)
     feed-lines = run-lines text at end (r .from) h (r .digits) f
 
-    pub line-none : end - at ≡ 0 → Illegible text at
-    line-none e = record { line = _; later = _; lines = feed-lines; bad = not-some _ (long ∙ e) }
+    pub line-none : (l : Answer.Line) → l ≡ Bad (min furthest (end - at)) → end - at ≡ 0 → LineAt text at l
+    line-none l i e = rw i record { line = _; later = _; lines = feed-lines; bad = not-some _ (long ∙ e); byte = stop-byte _ refl }
 
-    pub line-odd : ((end - at) % 2 ≡ 0 → ⊥) → Illegible text at
-    line-odd e = record { line = _; later = _; lines = feed-lines; bad = not-even _ (λ g. e (sym (ap (λ (n : ℕ). n % 2) long) ∙ g)) }
+    pub line-odd : (l : Answer.Line) → l ≡ Bad (min furthest (end - at)) → ((end - at) % 2 ≡ 0 → ⊥) → LineAt text at l
+    line-odd l i e =
+        rw i record { line = _; later = _; lines = feed-lines; bad = not-even _ (λ g. e (sym (ap (λ (n : ℕ). n % 2) long) ∙ g)); byte = stop-byte _ refl }
 
     pub line-ends : (end - at ≡ 0 → ⊥) → (end - at) % 2 ≡ 0 → Legible text at end
     line-ends n e = record { from = omega (arith, r .from); inside = h; digits = r .digits; even = e; feed = f }
 
-pub ruleset mine = (needs, scan-start, scan-step, scan-stop, scan-done, line-open, line-other, line-none, line-odd, line-ends)
+pub ruleset mine = (needs, scan-start, scan-step, scan-stop, scan-done, bad-near, bad-far, line-open, line-other, line-none, line-odd, line-ends)

@@ -32,21 +32,21 @@ module _ (text : List ℕ) (at n : ℕ) where
   argument-past k count h = rw (le-ltb _ _ h)
 
 module _ (text : List ℕ) (at end n : ℕ) (room : Bool) where
-  pub pair-size : (end - at ≡ 6 → ⊥) → P.Refused 3 ≡ pairOf text at end room n
+  pub pair-size : (end - at ≡ 6 → ⊥) → P.Refused 3 0 ≡ pairOf text at end room n
   unfolding pairOf
   pair-size h = rw (ne-eqb _ _ h)
 
-  pub pair-full : end - at ≡ 6 → room ≡ false → P.Refused 5 ≡ pairOf text at end room n
+  pub pair-full : end - at ≡ 6 → room ≡ false → P.Refused 5 0 ≡ pairOf text at end room n
   unfolding pairOf
   pair-full h r = rw (eq-eqb _ _ h, r)
 
   pub pair-left : (f : Found) → end - at ≡ 6 → room ≡ true → f ≡ foundIn n (valueAt text (at + 2)) → f ≡ Missing
-      → P.Refused 6 ≡ pairOf text at end room n
+      → P.Refused 6 2 ≡ pairOf text at end room n
   unfolding pairOf
   pair-left f h r e m = rw (eq-eqb _ _ h, r, ← e, m)
 
   pub pair-right : (f g : Found) (p : ℕ) → end - at ≡ 6 → room ≡ true → f ≡ foundIn n (valueAt text (at + 2)) → f ≡ Row p
-      → g ≡ foundIn n (valueAt text (at + 4)) → g ≡ Missing → P.Refused 6 ≡ pairOf text at end room n
+      → g ≡ foundIn n (valueAt text (at + 4)) → g ≡ Missing → P.Refused 6 4 ≡ pairOf text at end room n
   unfolding pairOf
   pair-right f g p h r e m d q = rw (eq-eqb _ _ h, r, ← e, m, ← d, q)
 
@@ -55,15 +55,15 @@ module _ (text : List ℕ) (at end n : ℕ) (room : Bool) where
   unfolding pairOf
   pair-both f g p q h r e m d o = rw (eq-eqb _ _ h, r, ← e, m, ← d, o)
 
-  pub variable-size : (end - at ≡ 4 → ⊥) → T.Refused 3 ≡ variableOf text at end room
+  pub variable-size : (end - at ≡ 4 → ⊥) → T.Refused 3 0 ≡ variableOf text at end room
   unfolding variableOf
   variable-size h = rw (ne-eqb _ _ h)
 
-  pub variable-full : end - at ≡ 4 → room ≡ false → T.Refused 5 ≡ variableOf text at end room
+  pub variable-full : end - at ≡ 4 → room ≡ false → T.Refused 5 0 ≡ variableOf text at end room
   unfolding variableOf
   variable-full h r = rw (eq-eqb _ _ h, r)
 
-  pub variable-high : (v : ℕ) → end - at ≡ 4 → room ≡ true → v ≡ valueAt text (at + 2) → 3 < v → T.Refused 5 ≡ variableOf text at end room
+  pub variable-high : (v : ℕ) → end - at ≡ 4 → room ≡ true → v ≡ valueAt text (at + 2) → 3 < v → T.Refused 5 0 ≡ variableOf text at end room
   unfolding variableOf
   variable-high v h r e g = rw (eq-eqb _ _ h, r, ← e, lt-ltb _ _ g)
 
@@ -72,20 +72,20 @@ module _ (text : List ℕ) (at end n : ℕ) (room : Bool) where
   unfolding variableOf
   variable-here v h r e g = rw (eq-eqb _ _ h, r, ← e, le-ltb _ _ g)
 
-  pub term-short : end - at < 8 → T.Refused 3 ≡ termOf text at end room n
+  pub term-short : end - at < 8 → T.Refused 3 0 ≡ termOf text at end room n
   unfolding termOf
   term-short h = rw (lt-ltb _ _ h)
 
-  pub term-size : (v : ℕ) → 8 ≤ end - at → v ≡ valueAt text (at + 6) → (end - at ≡ 8 + v * 2 → ⊥) → T.Refused 3 ≡ termOf text at end room n
+  pub term-size : (v : ℕ) → 8 ≤ end - at → v ≡ valueAt text (at + 6) → (end - at ≡ 8 + v * 2 → ⊥) → T.Refused 3 0 ≡ termOf text at end room n
   unfolding termOf
   term-size v h e d = rw (le-ltb _ _ h, ← e, ne-eqb _ _ d)
 
-  pub term-full : (v : ℕ) → 8 ≤ end - at → v ≡ valueAt text (at + 6) → end - at ≡ 8 + v * 2 → room ≡ false → T.Refused 5 ≡ termOf text at end room n
+  pub term-full : (v : ℕ) → 8 ≤ end - at → v ≡ valueAt text (at + 6) → end - at ≡ 8 + v * 2 → room ≡ false → T.Refused 5 0 ≡ termOf text at end room n
   unfolding termOf
   term-full v h e d r = rw (le-ltb _ _ h, ← e, eq-eqb _ _ d, r)
 
   pub term-many : (v : ℕ) → 8 ≤ end - at → v ≡ valueAt text (at + 6) → end - at ≡ 8 + v * 2 → room ≡ true → 4 < v
-      → T.Refused 5 ≡ termOf text at end room n
+      → T.Refused 5 0 ≡ termOf text at end room n
   unfolding termOf
   term-many v h e d r g = rw (le-ltb _ _ h, ← e, eq-eqb _ _ d, r, lt-ltb _ _ g)
 
@@ -99,23 +99,23 @@ unfolding symbolAt
 symbol-is text at v w e f = rw (← e, ← f)
 
 module _ (text : List ℕ) (at count n : ℕ) (f g h k : Found) where
-  pub term-first : f ≡ argumentOf text (at + 8) 0 count n → f ≡ Missing → T.Refused 6 ≡ termFrom text at count n
+  pub term-first : f ≡ argumentOf text (at + 8) 0 count n → f ≡ Missing → T.Refused 6 8 ≡ termFrom text at count n
   unfolding termFrom
   term-first e m = rw (← e, m)
 
   pub term-second : (a : ℕ) → f ≡ argumentOf text (at + 8) 0 count n → f ≡ Row a → g ≡ argumentOf text (at + 8) 1 count n → g ≡ Missing
-      → T.Refused 6 ≡ termFrom text at count n
+      → T.Refused 6 10 ≡ termFrom text at count n
   unfolding termFrom
   term-second a e m e′ m′ = rw (← e, m, ← e′, m′)
 
   pub term-third : (a b : ℕ) → f ≡ argumentOf text (at + 8) 0 count n → f ≡ Row a → g ≡ argumentOf text (at + 8) 1 count n → g ≡ Row b
-      → h ≡ argumentOf text (at + 8) 2 count n → h ≡ Missing → T.Refused 6 ≡ termFrom text at count n
+      → h ≡ argumentOf text (at + 8) 2 count n → h ≡ Missing → T.Refused 6 12 ≡ termFrom text at count n
   unfolding termFrom
   term-third a b e m e′ m′ e″ m″ = rw (← e, m, ← e′, m′, ← e″, m″)
 
   pub term-fourth : (a b c : ℕ) → f ≡ argumentOf text (at + 8) 0 count n → f ≡ Row a → g ≡ argumentOf text (at + 8) 1 count n → g ≡ Row b
       → h ≡ argumentOf text (at + 8) 2 count n → h ≡ Row c → k ≡ argumentOf text (at + 8) 3 count n → k ≡ Missing
-      → T.Refused 6 ≡ termFrom text at count n
+      → T.Refused 6 14 ≡ termFrom text at count n
   unfolding termFrom
   term-fourth a b c e m e′ m′ e″ m″ e‴ m‴ = rw (← e, m, ← e′, m′, ← e″, m″, ← e‴, m‴)
 

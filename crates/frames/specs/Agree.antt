@@ -24,8 +24,8 @@ patternClashes kinds heads counts f k (suc n) =
     patternClashes kinds heads counts f k n + patternClash (getD kinds n 0) (getD heads n 0) (getD counts n 0) f k
 
 abbrev pub agreeing : (ℕ → ℕ → ℕ) → Termed → Termed
-agreeing clashes (Is t) = choose (eqb (clashes (t .head) (t .count)) 0) (Is t) (Refused 7)
-agreeing clashes (Refused x) = Refused x
+agreeing clashes (Is t) = choose (eqb (clashes (t .head) (t .count)) 0) (Is t) (Refused 7 0)
+agreeing clashes (Refused x o) = Refused x o
 
 unfoldable pub agreeRows : List ℕ → List ℕ → ℕ → Termed → Termed
 agreeRows symbols counts n t = agreeing (λ f k. rowClashes symbols counts f k n) t

@@ -1,4 +1,4 @@
--- What one legible line adds, or the number of its refusal, by the fields at their places.
+-- What one legible line adds, or its refusal, a number and a byte of the line, by the fields at their places.
 --     foundIn, argumentOf          the look-up of a row, and of an argument
 --     pairOf, termOf, variableOf   a line that names two rows; one with a symbol over rows; one with a variable
 -- Assumes nothing.
@@ -23,17 +23,18 @@ foundIn n v = choose (ltb v n) (Row v) Missing
 unfoldable pub argumentOf : List ℕ → ℕ → ℕ → ℕ → ℕ → Found
 argumentOf text at k count n = choose (ltb k count) (foundIn n (valueAt text (at + k * 2))) (Row 0)
 
-abbrev pub pairBy : Found → (ℕ → Paired) → Paired
-pairBy (Row v) next = next v
-pairBy Missing next = P.Refused 6
+-- the field whose first digit is byte o names a row, or is refused
+abbrev pub pairBy : ℕ → Found → (ℕ → Paired) → Paired
+pairBy o (Row v) next = next v
+pairBy o Missing next = P.Refused 6 o
 
 unfoldable pub pairOf : List ℕ → ℕ → ℕ → Bool → ℕ → Paired
 pairOf text at end room n =
     choose (eqb (end - at) 6)
     (choose room
-    (pairBy (foundIn n (valueAt text (at + 2))) (λ p. pairBy (foundIn n (valueAt text (at + 4))) (λ q. P.Is (record { left = p; right = q }))))
-    (P.Refused 5))
-    (P.Refused 3)
+    (pairBy 2 (foundIn n (valueAt text (at + 2))) (λ p. pairBy 4 (foundIn n (valueAt text (at + 4))) (λ q. P.Is (record { left = p; right = q }))))
+    (P.Refused 5 0))
+    (P.Refused 3 0)
 
 -- a legible line that is as long as a line with so many arguments
 pub record TermLine (text : List ℕ) (at end count : ℕ) : Type 0 where
@@ -49,32 +50,32 @@ pub record TwoFields (text : List ℕ) (at : ℕ) : Type 0 where
 unfoldable pub symbolAt : List ℕ → ℕ → ℕ
 symbolAt text at = valueAt text at * 256 + valueAt text (at + 2)
 
-abbrev pub termBy : Found → (ℕ → Termed) → Termed
-termBy (Row v) next = next v
-termBy Missing next = T.Refused 6
+abbrev pub termBy : ℕ → Found → (ℕ → Termed) → Termed
+termBy o (Row v) next = next v
+termBy o Missing next = T.Refused 6 o
 
 unfoldable pub termFrom : List ℕ → ℕ → ℕ → ℕ → Termed
 termFrom text at count n =
-    termBy (argumentOf text (at + 8) 0 count n)
-    (λ a. termBy (argumentOf text (at + 8) 1 count n)
-    (λ b. termBy (argumentOf text (at + 8) 2 count n)
-    (λ c. termBy (argumentOf text (at + 8) 3 count n)
+    termBy 8 (argumentOf text (at + 8) 0 count n)
+    (λ a. termBy 10 (argumentOf text (at + 8) 1 count n)
+    (λ b. termBy 12 (argumentOf text (at + 8) 2 count n)
+    (λ c. termBy 14 (argumentOf text (at + 8) 3 count n)
     (λ d. T.Is (record { head = symbolAt text (at + 2); count = count; a = a; b = b; c = c; d = d })))))
 
 unfoldable pub termOf : List ℕ → ℕ → ℕ → Bool → ℕ → Termed
 termOf text at end room n =
     choose (ltb (end - at) 8)
-    (T.Refused 3)
+    (T.Refused 3 0)
     (choose (eqb (end - at) (8 + valueAt text (at + 6) * 2))
-    (choose room (choose (ltb 4 (valueAt text (at + 6))) (T.Refused 5) (termFrom text at (valueAt text (at + 6)) n)) (T.Refused 5))
-    (T.Refused 3))
+    (choose room (choose (ltb 4 (valueAt text (at + 6))) (T.Refused 5 0) (termFrom text at (valueAt text (at + 6)) n)) (T.Refused 5 0))
+    (T.Refused 3 0))
 
 unfoldable pub variableOf : List ℕ → ℕ → ℕ → Bool → Termed
 variableOf text at end room =
     choose (eqb (end - at) 4)
     (choose room
     (choose (ltb 3 (valueAt text (at + 2)))
-    (T.Refused 5)
+    (T.Refused 5 0)
     (T.Is (record { head = valueAt text (at + 2); count = 0; a = 0; b = 0; c = 0; d = 0 })))
-    (T.Refused 5))
-    (T.Refused 3)
+    (T.Refused 5 0))
+    (T.Refused 3 0)

@@ -6,11 +6,11 @@
 use mathlib.Core.Bool.{false}
 use mathlib.Core.List.{List, _∷_}
 use mathlib.Core.Path.{_≡_}
-use Prim.Native.Nat.{ℕ, _+_, _-_, _*_, _%_, _<_, _≤_}
+use Prim.Native.Nat.{ℕ, _+_, _-_, _*_, _%_, _<_, _≤_, min}
 use lib.Dec.{ltb}
 use lib.ListN.{length, getD, drop}
 use Rattle.meaning.specs.Text as T
-use Rattle.meaning.specs.Text.{digit, linesOf, legible, isListed, kinds}
+use Rattle.meaning.specs.Text.{digit, linesOf, legible, badByte, furthest, isListed, kinds}
 use Rattle.frames.specs.Choice.{choose}
 use Rattle.frames.specs.declared.lines.Line.{Line}
 use Rattle.frames.specs.declared.lines.Line.the-variants.{Ends, Bad}
@@ -34,16 +34,17 @@ pub record Legible (text : List ℕ) (at end : ℕ) : Type 0 where
   pub even : (end - at) % 2 ≡ 0
   pub feed : getD text end 0 ≡ 10
 
--- the line that begins at a place is refused by 1
-pub record Illegible (text : List ℕ) (at : ℕ) : Type 0 where
+-- the line that begins at a place is refused by 1, at a byte of it
+pub record Illegible (text : List ℕ) (at offset : ℕ) : Type 0 where
   pub line : T.Line
   pub later : List T.Line
   pub lines : linesOf (drop at text) ≡ line ∷ later
   pub bad : legible line ≡ false
+  pub byte : min furthest (badByte line) ≡ offset
 
 abbrev pub LineAt : List ℕ → ℕ → Line → Type 0
 LineAt text at (Ends end) = Legible text at end
-LineAt text at Bad = Illegible text at
+LineAt text at (Bad o) = Illegible text at o
 
 unfoldable pub valueAt : List ℕ → ℕ → ℕ
 valueAt text at = digit (getD text at 0) * 16 + digit (getD text (at + 1) 0)

@@ -72,7 +72,7 @@ pub fn agreed_rows<'a>(
     if row_clashes(symbols, counts, n, e.head, e.count) == 0 {
         Termed::Is(e)
     } else {
-        Termed::Refused(7)
+        Termed::Refused(7, 0)
     }
 }
 
@@ -93,6 +93,6 @@ pub fn agreed_patterns<'a>(
     if pattern_clashes(kinds, heads, counts, n, e.head, e.count) == 0 {
         Termed::Is(e)
     } else {
-        Termed::Refused(7)
+        Termed::Refused(7, 0)
     }
 }

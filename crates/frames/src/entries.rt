@@ -1,4 +1,4 @@
-// What one line adds, or the number of its refusal: a pair of rows, or a symbol over rows.
+// What one line adds, or its refusal, a number and a byte of the line: a pair of rows, or a symbol over rows.
 use super::lines::field;
 ghost use mathlib.Core.Path.{_≡_};
 ghost use Prim.Native.Nat.{_≤_, _<_, _+_, _*_};
@@ -18,7 +18,7 @@ pub struct Pair {
 
 pub enum Paired {
     Is(Pair),
-    Refused(u8),
+    Refused(u8, u16),
 }
 
 pub struct Term {
@@ -32,7 +32,7 @@ pub struct Term {
 
 pub enum Termed {
     Is(Term),
-    Refused(u8),
+    Refused(u8, u16),
 }
 
 // The row that a field names, of the first n.
@@ -68,16 +68,16 @@ pub fn pair_line(text: &[u8], at: usize, end: usize, room: bool, n: usize) -> Pa
     ensures { λ r. ⌜ r ≡ pairOf (now (text .entry)) at end room n ⌝ }
 {
     if end - at != 6 {
-        return Paired::Refused(3);
+        return Paired::Refused(3, 0);
     }
     if !room {
-        return Paired::Refused(5);
+        return Paired::Refused(5, 0);
     }
     let Found::Row(left) = row_at(text, at + 2, n) else {
-        return Paired::Refused(6);
+        return Paired::Refused(6, 2);
     };
     let Found::Row(right) = row_at(text, at + 4, n) else {
-        return Paired::Refused(6);
+        return Paired::Refused(6, 4);
     };
     let p = Pair { left, right };
     Paired::Is(p)
@@ -99,16 +99,16 @@ fn term_of(text: &[u8], at: usize, end: usize, count: u8, n: usize) -> Termed
 {
     let first = at + 8;
     let Found::Row(a) = argument(text, first, 0, count, n) else {
-        return Termed::Refused(6);
+        return Termed::Refused(6, 8);
     };
     let Found::Row(b) = argument(text, first, 1, count, n) else {
-        return Termed::Refused(6);
+        return Termed::Refused(6, 10);
     };
     let Found::Row(c) = argument(text, first, 2, count, n) else {
-        return Termed::Refused(6);
+        return Termed::Refused(6, 12);
     };
     let Found::Row(d) = argument(text, first, 3, count, n) else {
-        return Termed::Refused(6);
+        return Termed::Refused(6, 14);
     };
     let head = symbol_at(text, at + 2);
     let t = Term {
@@ -129,18 +129,18 @@ pub fn term_line(text: &[u8], at: usize, end: usize, room: bool, n: usize) -> Te
 {
     let long = end - at;
     if long < 8 {
-        return Termed::Refused(3);
+        return Termed::Refused(3, 0);
     }
     let count = field(text, at + 6);
     let args = count as usize;
     if long != 8 + args * 2 {
-        return Termed::Refused(3);
+        return Termed::Refused(3, 0);
     }
     if !room {
-        return Termed::Refused(5);
+        return Termed::Refused(5, 0);
     }
     if 4 < count {
-        return Termed::Refused(5);
+        return Termed::Refused(5, 0);
     }
     term_of(text, at, end, count as u8, n)
 }
@@ -151,14 +151,14 @@ pub fn variable_line(text: &[u8], at: usize, end: usize, room: bool) -> Termed
     ensures { λ r. ⌜ r ≡ variableOf (now (text .entry)) at end room ⌝ }
 {
     if end - at != 4 {
-        return Termed::Refused(3);
+        return Termed::Refused(3, 0);
     }
     if !room {
-        return Termed::Refused(5);
+        return Termed::Refused(5, 0);
     }
     let v = field(text, at + 2);
     if 3 < v {
-        return Termed::Refused(5);
+        return Termed::Refused(5, 0);
     }
     let t = Term {
         head: v,

@@ -3,13 +3,15 @@ use super::digits::Digit;
 use super::digits::digit_of;
 use super::digits::value;
 ghost use mathlib.Core.Path.{_≡_};
-ghost use Prim.Native.Nat.{_≤_, _<_, _+_};
+ghost use Prim.Native.Nat.{_≤_, _<_, _+_, min};
 ghost use lib.ListN.{length};
+ghost use Rattle.meaning.specs.Text.{furthest};
 ghost use Rattle.frames.specs.Lines.{Run, LineAt, valueAt, kindAt, kindOf};
 
+// Where a legible line has its line feed; or the byte that refusal 1 names, counted from where the line begins.
 pub enum Line {
     Ends(usize),
-    Bad,
+    Bad(u16),
 }
 
 pub enum Kind {
@@ -32,27 +34,34 @@ pub fn digits_end(text: &[u8], at: usize) -> usize
     i
 }
 
+// A line that is refused by 1 after n digits.
+fn bad(n: usize) -> Line
+    ensures { λ r. ⌜ r ≡ Line.Bad (min furthest n) ⌝ }
+{
+    if n < 65535 {
+        Line::Bad(n as u16)
+    } else {
+        Line::Bad(65535)
+    }
+}
+
 // Where the line that begins at a place has its line feed.
 pub fn line_at(text: &[u8], at: usize) -> Line
     requires { ⌜ at < length (now text) ⌝ }
     ensures line { λ r. ⌜ LineAt (now (text .entry)) at r ⌝ }
 {
     let end = digits_end(text, at);
+    let n = end - at;
     if text.len() <= end {
-        return Line::Bad;
+        return bad(n);
     }
     if text[end] != 10 {
-        return Line::Bad;
+        return bad(n);
     }
-    let n = end - at;
     if n == 0 {
-        return Line::Bad;
+        return bad(n);
     }
-    if n % 2 == 0 {
-        Line::Ends(end)
-    } else {
-        Line::Bad
-    }
+    if n % 2 == 0 { Line::Ends(end) } else { bad(n) }
 }
 
 fn wide(x: u8) -> u16

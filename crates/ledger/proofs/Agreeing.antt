@@ -111,7 +111,7 @@ module _ (f k : ℕ) where
 
 agree-gated : (clashes : ℕ → ℕ → ℕ) (agree : ℕ → ℕ → Bool) → ((f k : ℕ) → eqb (clashes f k) 0 ≡ agree f k) → (t : Termed) → agreeing clashes t ≡ gated agree t
 agree-gated clashes agree h (Is t) = rw (h (t .head) (t .count))
-agree-gated clashes agree h (Refused x) = refl
+agree-gated clashes agree h (Refused x o) = refl
 
 pub gated-rows : (n : ℕ) (rows : List Row) (t : Termed)
     → agreeRows (pad n (symbolsOf rows)) (pad n (countsOf rows)) (length rows) t ≡ gated (λ f k. rowsAgree f k rows) t
@@ -128,7 +128,7 @@ gated-patterns n ps t = agree-gated _ _ (λ f k. patterns-agree f k n ps) t
 pub gated-both : (a b : ℕ → ℕ → Bool) (t : Termed) → gated b (gated a t) ≡ gated (λ f k. a f k && b f k) t
 gated-both a b (Is t) = go (a (t .head) (t .count))
   where
-    go : (x : Bool) → gated b (choose x (Is t) (Refused 7)) ≡ choose (x && b (t .head) (t .count)) (Is t) (Refused 7)
+    go : (x : Bool) → gated b (choose x (Is t) (Refused 7 0)) ≡ choose (x && b (t .head) (t .count)) (Is t) (Refused 7 0)
     go true = refl
     go false = refl
-gated-both a b (Refused x) = refl
+gated-both a b (Refused x o) = refl

@@ -37,7 +37,7 @@ use Rattle.ledger.proofs.Kinded.{known-is, kind-is, row-kind}
 use Rattle.ledger.proofs.Standing.{rise, stand-start, stop, stop-illegible, advance, kind-end, within-row}
 use Rattle.ledger.proofs.Store.{withRow, row-columns}
 use Rattle.ledger.proofs.Terming.{TermIs, TermVerdict, gated, term-verdict}
-use Rattle.ledger.proofs.Turn.{entryIn, faultIn}
+use Rattle.ledger.proofs.Turn.{entryIn, faultIn, offsetFor}
 
 pub empty-of : {A : Type 0} (l : List A) → length l ≡ 0 → l ≡ []
 empty-of [] e = refl
@@ -45,7 +45,7 @@ empty-of (a ∷ l) e = absurd (omega arith)
 
 pub gated-ext : (a b : ℕ → ℕ → Bool) → ((f k : ℕ) → a f k ≡ b f k) → (t : Termed) → gated a t ≡ gated b t
 gated-ext a b h (Is t) = rw (h (t .head) (t .count))
-gated-ext a b h (Refused x) = refl
+gated-ext a b h (Refused x o) = refl
 
 module _ (text : List ℕ) (at line m : ℕ) (c : ContextColumns) (k : ClauseColumns) (h : Stands text at line m c k) where
   rows-are : c .rows ≡ length (rowsOf (h .said))
@@ -84,7 +84,7 @@ module _ (text : List ℕ) (at line end : ℕ) (c : ContextColumns) (h : Stands 
       ∙ gated-rows 255 (rowsOf (h .said)) _
       ∙ gated-ext _ _ agree-is (termOf text at end room (length (rowsOf (h .said))))
 
-  verdict : TermVerdict (symbolIn (fieldsOf text at end)) (drop 4 (fieldsOf text at end)) room t (faultIn text at end (h .said))
+  verdict : TermVerdict (symbolIn (fieldsOf text at end)) (drop 4 (fieldsOf text at end)) room t (faultIn text at end (h .said)) (offsetFor text at end (h .said))
   unfolding isListed listedAs
   verdict =
       rw term-is
@@ -97,14 +97,14 @@ module _ (text : List ℕ) (at line end : ℕ) (c : ContextColumns) (h : Stands 
   abbrev args : List ℕ
   args = drop 4 (fieldsOf text at end)
 
-  pub row-stop : (x : ℕ) → t ≡ Refused x → read narrow text ≡ faulty (record { number = x; place = line })
-  row-stop x f =
-      let v = subst (λ (y : Termed). TermVerdict symbol args room y (faultIn text at end (h .said))) f verdict in
-      stop text at line 1 c noClause h end g x (v .0) (v .1)
+  pub row-stop : (x o : ℕ) → t ≡ Refused x o → read narrow text ≡ faulty (record { number = x; place = line; offset = o })
+  row-stop x o f =
+      stop text at line 1 c noClause h end g x o
+      (subst (λ (y : Termed). TermVerdict symbol args room y (faultIn text at end (h .said)) (offsetFor text at end (h .said))) f verdict)
 
   module _ (r : Term) (f : t ≡ Is r) where
     accepted : (faultIn text at end (h .said) ≡ 0) × TermIs symbol args room r
-    accepted = subst (λ (y : Termed). TermVerdict symbol args room y (faultIn text at end (h .said))) f verdict
+    accepted = subst (λ (y : Termed). TermVerdict symbol args room y (faultIn text at end (h .said)) (offsetFor text at end (h .said))) f verdict
 
     some-room : length (rowsOf (h .said)) < 255
     some-room = ltb-true (length (rowsOf (h .said))) 255 (accepted .1 .roomy)
@@ -148,9 +148,9 @@ module _ (text : List ℕ) (m : ℕ) (next : Next) (c : ContextColumns) where
   pub phase-at : (at line : ℕ) → next ≡ N.At (record { at = at; line = line }) → Stands text at line m c noClause → ContextPhase text m next c
   phase-at at line e h = rw e h
 
-  pub phase-refused : (x line : ℕ) → next ≡ N.Refused (record { number = x; line = line }) → read narrow text ≡ faulty (record { number = x; place = line })
-      → ContextPhase text m next c
-  phase-refused x line e h = rw e h
+  pub phase-refused : (x line o : ℕ) → next ≡ N.Refused (record { number = x; line = line; offset = o })
+      → read narrow text ≡ faulty (record { number = x; place = line; offset = o }) → ContextPhase text m next c
+  phase-refused x line o e h = rw e h
 
 module _ (text : List ℕ) (at end : ℕ) (symbols counts : List ℕ) (n : ℕ) where
   pub row-line : (t r : Termed) → t ≡ termOf text at end (ltb n 255) n → r ≡ agreeRows symbols counts n t → r ≡ rowOf text at end symbols counts n
@@ -162,8 +162,8 @@ module _ (text : List ℕ) (at : ℕ) (l : Line) (p : LineAt text at l) where
   pub line-legible : (end : ℕ) → l ≡ L.Ends end → Legible text at end
   line-legible end e = subst (λ (x : Line). LineAt text at x) e p
 
-  pub line-illegible : l ≡ L.Bad → Illegible text at
-  line-illegible e = subst (λ (x : Line). LineAt text at x) e p
+  pub line-illegible : (o : ℕ) → l ≡ L.Bad o → Illegible text at o
+  line-illegible o e = subst (λ (x : Line). LineAt text at x) e p
 
 pub stand-first : (text : List ℕ) (c : ContextColumns) → c ≡ noContext → Stands text 0 1 1 c noClause
 stand-first text c e = rw e (stand-start text)

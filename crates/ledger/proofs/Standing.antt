@@ -23,7 +23,7 @@ use Rattle.ledger.specs.declared.ContextColumns.{ContextColumns}
 use Rattle.ledger.specs.declared.ClauseColumns.{ClauseColumns}
 use Rattle.ledger.proofs.Padding.{map-snoc, short-snoc}
 use Rattle.ledger.proofs.Store.{context-none, clause-none}
-use Rattle.ledger.proofs.Turn.{entryIn, faultIn, turn-taken, turn-faulty, turn-illegible}
+use Rattle.ledger.proofs.Turn.{entryIn, faultIn, offsetFor, Stopped, turn-taken, turn-faulty, turn-illegible}
 
 pub rising-in : (q m : ℕ) → m ≤ 4 → Rising q m m
 rising-in q m h =
@@ -86,12 +86,13 @@ module _ (text : List ℕ) (at line m : ℕ) (c : ContextColumns) (k : ClauseCol
         rising = r;
       }
 
-  pub stop-illegible : Illegible text at → read narrow text ≡ faulty (record { number = 1; place = line })
-  stop-illegible b = h .same ∙ turn-illegible text at line (h .said) b
+  pub stop-illegible : (o : ℕ) → Illegible text at o → read narrow text ≡ faulty (record { number = 1; place = line; offset = o })
+  stop-illegible o b = h .same ∙ turn-illegible text at line o (h .said) b
 
   module _ (end : ℕ) (g : Legible text at end) where
-    pub stop : (x : ℕ) → faultIn text at end (h .said) ≡ x → 0 < x → read narrow text ≡ faulty (record { number = x; place = line })
-    stop x e f = h .same ∙ turn-faulty text at end g line (h .said) x e f
+    pub stop : (x o : ℕ) → Stopped (faultIn text at end (h .said)) (offsetFor text at end (h .said)) x o
+        → read narrow text ≡ faulty (record { number = x; place = line; offset = o })
+    stop x o e = h .same ∙ turn-faulty text at end g line (h .said) x o (e .number) (e .byte) (e .some)
 
     pub advance : (e : Entry) (c′ : ContextColumns) (k′ : ClauseColumns) → faultIn text at end (h .said) ≡ 0 → entryIn text at end ≡ e → rankOf e ≡ m → m ≤ 4
         → c′ ≡ contextColumns (putContext e (h .said .ledger)) → k′ ≡ clauseColumns (putClause e (h .said .clause)) → Within (put e (h .said)) (line + 1)

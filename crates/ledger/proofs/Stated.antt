@@ -38,7 +38,7 @@ use Rattle.ledger.proofs.Pairing.{PairKind, PairVerdict, pair-verdict}
 use Rattle.ledger.proofs.Rowed.{phase-at, phase-refused, line-fits, line-legible, line-illegible, legible-falls}
 use Rattle.ledger.proofs.Standing.{rise, stop, stop-illegible, advance, kind-end, within-same, within-differ}
 use Rattle.ledger.proofs.Store.{withStatement, equationsIn, differencesIn, statement-columns}
-use Rattle.ledger.proofs.Turn.{entryIn, kindIn, faultIn}
+use Rattle.ledger.proofs.Turn.{entryIn, kindIn, faultIn, offsetFor}
 
 pub tally-one : (kind of : ℕ) → kind ≡ of → 1 ≡ tallyOf kind of
 unfolding tallyOf
@@ -174,19 +174,19 @@ module _ (text : List ℕ) (at line end : ℕ) (c : ContextColumns) (h : Stands 
       abbrev p₂ : ℕ
       p₂ = fieldAt (fieldsOf text at end) 2
 
-      verdict : PairVerdict p₁ p₂ room t (faultIn text at end (h .said))
+      verdict : PairVerdict p₁ p₂ room t (faultIn text at end (h .said)) (offsetFor text at end (h .said))
       verdict =
           let e′ : t ≡ pairOf text at end room (length (rowsOf (h .said))) = e ∙ rw rows-are in
           rw e′ (pair-verdict text at end g (h .said) _ _ _ room (st .knows) (st .kinded) (st .is))
 
-      pub statement-stop : (x : ℕ) → t ≡ Refused x → read narrow text ≡ faulty (record { number = x; place = line })
-      statement-stop x f =
-          let v = subst (λ (y : Paired). PairVerdict p₁ p₂ room y (faultIn text at end (h .said))) f verdict in
-          stop text at line 2 c noClause h end g x (v .0) (v .1)
+      pub statement-stop : (x o : ℕ) → t ≡ Refused x o → read narrow text ≡ faulty (record { number = x; place = line; offset = o })
+      statement-stop x o f =
+          stop text at line 2 c noClause h end g x o
+          (subst (λ (y : Paired). PairVerdict p₁ p₂ room y (faultIn text at end (h .said)) (offsetFor text at end (h .said))) f verdict)
 
       module _ (p : Pair) (f : t ≡ Is p) where
-        accepted : PairVerdict p₁ p₂ room (Is p) (faultIn text at end (h .said))
-        accepted = subst (λ (y : Paired). PairVerdict p₁ p₂ room y (faultIn text at end (h .said))) f verdict
+        accepted : PairVerdict p₁ p₂ room (Is p) (faultIn text at end (h .said)) (offsetFor text at end (h .said))
+        accepted = subst (λ (y : Paired). PairVerdict p₁ p₂ room y (faultIn text at end (h .said)) (offsetFor text at end (h .said))) f verdict
 
         abbrev x₀ : Statement
         x₀ = st .make (p .left) (p .right)

@@ -1,5 +1,5 @@
 -- A legible line with a symbol over rows: what the function on it answers is what the tests of such a line say.
---     TermVerdict    an answer and the number of the first test that fails agree
+--     TermVerdict    an answer agrees with the number of the first test that fails and with the byte that it names
 --     gated          an answer, after the test of refusal 7
 --     term-verdict   they do
 -- Assumes nothing.
@@ -14,7 +14,7 @@ use lib.ListN.{length, getD, drop, length-drop}
 use lib.Seq.{getD-drop}
 use borrow.Author.Tests.{ne-eqb, eq-eqb, eqb-true, ltb-true, ltb-false, le-leb, lt-leb, lt-ltb, le-ltb}
 use Rattle.meaning.specs.Text as M
-use Rattle.meaning.specs.Text.{Kind, Entry, Read, narrow, fieldAt, symbolIn, sizeOf, entryOf, known, sized, ranked, refers, noRow, namedBy, tableOf, agrees, firstFailing, isNowhere, testsOf, firstFault}
+use Rattle.meaning.specs.Text.{Kind, Entry, Read, narrow, fieldAt, symbolIn, sizeOf, entryOf, known, sized, ranked, refers, noRow, namedBy, tableOf, agrees, Spot, nowhere, firstFailing, isNowhere, spotOr, namesFrom, badField, offsetOf, testsOf, firstFault}
 use Rattle.meaning.specs.Columns.{pad}
 use Rattle.frames.specs.Choice.{choose}
 use Rattle.frames.specs.Lines.{Legible, valueAt}
@@ -24,8 +24,8 @@ use Rattle.frames.specs.declared.entries.Termed.{Termed}
 use Rattle.frames.specs.declared.entries.Termed.the-variants.{Is, Refused}
 use Rattle.ledger.proofs.Padding.{four, pad-length}
 use Rattle.frames.proofs.Fields.{fieldsOf, fields-count, field-at}
-use Rattle.ledger.proofs.Pairing.{allIn, sized-by}
-use Rattle.ledger.proofs.Turn.{kindIn, faultIn, legible-line}
+use Rattle.ledger.proofs.Pairing.{missing, allIn, spot-small, sized-by}
+use Rattle.ledger.proofs.Turn.{kindIn, entryIn, faultIn, offsetFor, Stopped, offset-first, stopped-first, legible-line}
 
 -- the answer t is the symbol f over the rows a
 pub record TermIs (f : ℕ) (a : List ℕ) (room : Bool) (t : Term) : Type 0 where
@@ -35,19 +35,19 @@ pub record TermIs (f : ℕ) (a : List ℕ) (room : Bool) (t : Term) : Type 0 whe
   pub few : length a ≤ 4
   pub roomy : room ≡ true
 
-abbrev pub TermVerdict : ℕ → List ℕ → Bool → Termed → ℕ → Type 0
-TermVerdict f a room (Is t) m = (m ≡ 0) × TermIs f a room t
-TermVerdict f a room (Refused x) m = (m ≡ x) × (0 < x)
+abbrev pub TermVerdict : ℕ → List ℕ → Bool → Termed → ℕ → (ℕ → ℕ) → Type 0
+TermVerdict f a room (Is t) m offset = (m ≡ 0) × TermIs f a room t
+TermVerdict f a room (Refused x o) m offset = Stopped m offset x o
 
 abbrev pub gated : (ℕ → ℕ → Bool) → Termed → Termed
-gated agree (Is t) = choose (agree (t .head) (t .count)) (Is t) (Refused 7)
-gated agree (Refused x) = Refused x
+gated agree (Is t) = choose (agree (t .head) (t .count)) (Is t) (Refused 7 0)
+gated agree (Refused x o) = Refused x o
 
--- at most d rows, one after the other, and then zeros
-collect : ℕ → List ℕ → ℕ → (List ℕ → Termed) → Termed
-collect zero a n next = next []
-collect (suc d) [] n next = collect d [] n (λ l. next (0 ∷ l))
-collect (suc d) (p ∷ a) n next = termBy (foundIn n p) (λ v. collect d a n (λ l. next (v ∷ l)))
+-- at most d rows, one after the other from argument i on, and then zeros
+collect : ℕ → ℕ → List ℕ → ℕ → (List ℕ → Termed) → Termed
+collect zero i a n next = next []
+collect (suc d) i [] n next = collect d i [] n (λ l. next (0 ∷ l))
+collect (suc d) i (p ∷ a) n next = termBy ((4 + i) * 2) (foundIn n p) (λ v. collect d (suc i) a n (λ l. next (v ∷ l)))
 
 pad-nil : (d : ℕ) → pad (suc d) [] ≡ 0 ∷ pad d []
 unfolding pad
@@ -57,17 +57,21 @@ pad-cons : (d p : ℕ) (a : List ℕ) → pad (suc d) (p ∷ a) ≡ p ∷ pad d 
 unfolding pad
 pad-cons d p a = rw suc-sub-suc
 
+-- all of them are there, or the first that is missing is refused
+reached : Spot → Termed → Termed
+reached z t = choose (isNowhere z) t (Refused 6 ((4 + spotOr 0 z) * 2))
+
 collect-all : (d i : ℕ) (a : List ℕ) (n : ℕ) (next : List ℕ → Termed) → length a ≤ d
-    → collect d a n next ≡ choose (isNowhere (firstFailing (λ r. ltb r n) i a)) (next (pad d a)) (Refused 6)
-unfolding firstFailing isNowhere pad collect
+    → collect d i a n next ≡ reached (firstFailing (λ r. ltb r n) i a) (next (pad d a))
+unfolding firstFailing isNowhere spotOr pad collect reached
 collect-all zero i [] n next h = refl
 collect-all zero i (p ∷ a) n next h = absurd (not-suc-le-zero h)
 collect-all (suc d) i [] n next h = collect-all d i [] n (λ l. next (0 ∷ l)) (omega arith) ∙ rw pad-nil
 collect-all (suc d) i (p ∷ a) n next h = go (ltb p n) refl (collect-all d (suc i) a n (λ l. next (p ∷ l)) (le-of-suc-le-suc h))
   where
     go : (t : Bool) → ltb p n ≡ t
-        → collect d a n (λ l. next (p ∷ l)) ≡ choose (isNowhere (firstFailing (λ r. ltb r n) (suc i) a)) (next (p ∷ pad d a)) (Refused 6)
-        → collect (suc d) (p ∷ a) n next ≡ choose (isNowhere (firstFailing (λ r. ltb r n) i (p ∷ a))) (next (pad (suc d) (p ∷ a))) (Refused 6)
+        → collect d (suc i) a n (λ l. next (p ∷ l)) ≡ reached (firstFailing (λ r. ltb r n) (suc i) a) (next (p ∷ pad d a))
+        → collect (suc d) i (p ∷ a) n next ≡ reached (firstFailing (λ r. ltb r n) i (p ∷ a)) (next (pad (suc d) (p ∷ a)))
     go true e r = rw (e, firstFailing, pad-cons) r
     go false e r = rw (e, firstFailing)
 
@@ -76,7 +80,7 @@ placed f n l = record { head = f; count = n; a = getD l 0 0; b = getD l 1 0; c =
 
 module _ (text : List ℕ) (at n : ℕ) where
   term-collect : (a : List ℕ) → length a ≤ 4 → ((k : ℕ) → k < length a → valueAt text (at + 8 + k * 2) ≡ getD a k 0)
-      → termFrom text at (length a) n ≡ collect 4 a n (λ l. Is (placed (symbolAt text (at + 2)) (length a) l))
+      → termFrom text at (length a) n ≡ collect 4 0 a n (λ l. Is (placed (symbolAt text (at + 2)) (length a) l))
   unfolding termFrom argumentOf collect
   term-collect [] h v = refl
   term-collect (p ∷ []) h v = rw (v 0 (omega arith))
@@ -94,17 +98,17 @@ four-of (p ∷ q ∷ r ∷ s ∷ []) h = refl
 four-of (p ∷ q ∷ r ∷ s ∷ t ∷ a) h = absurd (omega arith)
 
 module _ (f : ℕ) (a : List ℕ) (agree : ℕ → ℕ → Bool) (few : length a ≤ 4) where
-  named-verdict : (x : Bool)
-      → TermVerdict f a true (gated agree (choose x (Is (placed f (length a) (pad 4 a))) (Refused 6)))
-      (firstFault 1 (true ∷ true ∷ true ∷ true ∷ true ∷ x ∷ agree f (length a) ∷ []))
-  unfolding firstFault
-  named-verdict true = go (agree f (length a)) refl
+  named-verdict : (z : Spot) (offset : ℕ → ℕ) → offset 6 ≡ (4 + spotOr 0 z) * 2 → offset 7 ≡ 0
+      → TermVerdict f a true (gated agree (reached z (Is (placed f (length a) (pad 4 a)))))
+      (firstFault 1 (true ∷ true ∷ true ∷ true ∷ true ∷ isNowhere z ∷ agree f (length a) ∷ [])) offset
+  unfolding firstFault isNowhere reached
+  named-verdict nowhere offset six seven = go (agree f (length a)) refl
     where
       go : (y : Bool) → agree f (length a) ≡ y
-          → TermVerdict f a true (gated agree (Is (placed f (length a) (pad 4 a)))) (firstFault 1 (true ∷ true ∷ true ∷ true ∷ true ∷ true ∷ agree f (length a) ∷ []))
+          → TermVerdict f a true (gated agree (Is (placed f (length a) (pad 4 a)))) (firstFault 1 (true ∷ true ∷ true ∷ true ∷ true ∷ true ∷ agree f (length a) ∷ [])) offset
       go true e = rw e (refl, record { head = refl; count = refl; args = four-of (pad 4 a) (pad-length 4 a few); few = few; roomy = refl })
-      go false e = rw e (refl, omega arith)
-  named-verdict false = (refl, omega arith)
+      go false e = rw e record { number = refl; byte = seven; some = omega arith }
+  named-verdict (M.at i) offset six seven = record { number = refl; byte = six; some = omega arith }
 
 -- what a kind of line has to be for its lines to have a symbol over rows
 pub record TermKind (l : List ℕ) (s : Read) (k : Kind) (mk : ℕ → List ℕ → Entry) (n : ℕ) (room : Bool) (agree : ℕ → ℕ → Bool) : Type 0 where
@@ -113,6 +117,7 @@ pub record TermKind (l : List ℕ) (s : Read) (k : Kind) (mk : ℕ → List ℕ 
   pub ranks : (f : ℕ) (a : List ℕ) → ranked (mk f a) s ≡ true
   pub rooms : (f : ℕ) (a : List ℕ) → M.room narrow (mk f a) s ≡ room && leb (length a) 4
   pub names : (f : ℕ) (a : List ℕ) → namedBy (mk f a) ≡ a
+  pub from : (f : ℕ) (a : List ℕ) → namesFrom (mk f a) ≡ 4
   pub table : (f : ℕ) (a : List ℕ) → tableOf (mk f a) s ≡ n
   pub agrees : (f : ℕ) (a : List ℕ) → agrees (mk f a) s ≡ agree f (length a)
 
@@ -135,8 +140,22 @@ module _ (text : List ℕ) (at end : ℕ) (g : Legible text at end) (s : Read) (
   fault-is t e =
       rw (kind, is .entry, legible-line text at end g, knows, e, is .ranks symbol args, is .rooms symbol args, refers-is symbol args, is .agrees symbol args)
 
+  entry-is : entryIn text at end ≡ mk symbol args
+  entry-is = rw kind (is .entry)
+
+  bad-field : badField (mk symbol args) s ≡ (4 + spotOr 0 (missing n args)) * 2
+  unfolding badField noRow
+  bad-field = rw (is .from symbol args, is .names symbol args, is .table symbol args)
+
+  offset-six : length args ≤ 4 → offsetFor text at end s 6 ≡ (4 + spotOr 0 (missing n args)) * 2
+  unfolding offsetFor offsetOf
+  offset-six few = rw (entry-is, bad-field) (let h = spot-small (λ r. ltb r n) 0 args in omega arith)
+
+  stopped : (x : ℕ) → eqb x 1 ≡ false → eqb x 6 ≡ false → 0 < x → Stopped x (offsetFor text at end s) x 0
+  stopped x e f h = stopped-first text at end s x x refl e f h
+
   abbrev Verdict : Type 0
-  Verdict = TermVerdict symbol args room (gated agree (termOf text at end room n)) (faultIn text at end s)
+  Verdict = TermVerdict symbol args room (gated agree (termOf text at end room n)) (faultIn text at end s) (offsetFor text at end s)
 
   short : end - at < 8 → Verdict
   unfolding termOf sized firstFault
@@ -144,7 +163,7 @@ module _ (text : List ℕ) (at end : ℕ) (g : Legible text at end) (s : Read) (
       let c = fields-count text at end g in
       let e : sized k (fieldsOf text at end) ≡ false =
       rw (is .size) (ne-eqb (length (fieldsOf text at end)) (4 + fieldAt (fieldsOf text at end) 3) (λ d. omega arith)) in
-      rw (fault-is false e, lt-ltb (end - at) 8 h) (refl, omega arith)
+      rw (fault-is false e, lt-ltb (end - at) 8 h) (stopped 3 refl refl (omega arith))
 
   module _ (h : 8 ≤ end - at) where
     count-is : fieldAt (fieldsOf text at end) 3 ≡ valueAt text (at + 6)
@@ -159,7 +178,7 @@ module _ (text : List ℕ) (at end : ℕ) (g : Legible text at end) (s : Read) (
 
     other : eqb (end - at) (8 + valueAt text (at + 6) * 2) ≡ false → Verdict
     unfolding termOf firstFault
-    other e = rw (fault-is false (sized-is ∙ e), le-ltb (end - at) 8 h, e) (refl, omega arith)
+    other e = rw (fault-is false (sized-is ∙ e), le-ltb (end - at) 8 h, e) (stopped 3 refl refl (omega arith))
 
     module _ (d : end - at ≡ 8 + valueAt text (at + 6) * 2) where
       sized-right : sized k (fieldsOf text at end) ≡ true
@@ -183,14 +202,15 @@ module _ (text : List ℕ) (at end : ℕ) (g : Legible text at end) (s : Read) (
       full : room ≡ false → Verdict
       unfolding termOf firstFault
       full r =
-          rw (fault-is true sized-right, le-ltb (end - at) 8 h, eq-eqb (end - at) (8 + valueAt text (at + 6) * 2) d, r) (refl, omega arith)
+          rw (fault-is true sized-right, le-ltb (end - at) 8 h, eq-eqb (end - at) (8 + valueAt text (at + 6) * 2) d, r)
+          (stopped 5 refl refl (omega arith))
 
       many : room ≡ true → 4 < valueAt text (at + 6) → Verdict
       unfolding termOf firstFault
       many r b =
           let c : 4 < length args = omega (arith, args-length) in
           rw (fault-is true sized-right, le-ltb (end - at) 8 h, eq-eqb (end - at) (8 + valueAt text (at + 6) * 2) d, r, lt-ltb 4 (valueAt text (at + 6)) b, lt-leb (length args) 4 c)
-          (refl, omega arith)
+          (stopped 5 refl refl (omega arith))
 
       named : room ≡ true → valueAt text (at + 6) ≤ 4 → Verdict
       unfolding termOf
@@ -208,7 +228,7 @@ module _ (text : List ℕ) (at end : ℕ) (g : Legible text at end) (s : Read) (
             f,
             symbol-is,
           )
-          (named-verdict (symbolAt text (at + 2)) args agree c (allIn n args))
+          (named-verdict (symbolAt text (at + 2)) args agree c (missing n args) (offsetFor text at end s) (offset-six c) (offset-first text at end s 7 refl refl))
 
   pub term-verdict : Verdict
   term-verdict = go (ltb (end - at) 8) refl (eqb (end - at) (8 + valueAt text (at + 6) * 2)) refl room refl (ltb 4 (valueAt text (at + 6))) refl

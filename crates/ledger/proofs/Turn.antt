@@ -1,18 +1,22 @@
 -- One line of a text: what it adds where no test fails, and the refusal where one does.
 --     lineOf, testsAt, kindIn, entryIn   a legible line, its tests, its kind and what it adds
 --     legible-line                       it is legible
+--     offsetFor                          the byte of it that a refusal names
+--     Stopped                            a refusal is the first test that fails, and its byte
+--     offset-first, stopped-first        the line's first byte, for all numbers but 1 and 6
 --     turn-taken, turn-faulty            reading goes on after it, or ends there
 --     turn-illegible                     a line that is not legible
 -- Assumes nothing.
-use mathlib.Core.Bool.{true}
+use mathlib.Core.Bool.{true, false}
 use mathlib.Core.List.{List, _∷_}
 use mathlib.Core.Path.{_≡_}
 use Prim.Native.Nat.{ℕ, zero, suc, _+_, _-_, _<_}
 use native.Mathlib.Numerals.{add-one}
 use native.Mathlib.Omega.{arith}
+use lib.Dec.{eqb}
 use lib.ListN.{drop}
 use borrow.Author.Tests.{lt-ltb, eq-eqb}
-use Rattle.meaning.specs.Text.{Line, Kind, Entry, Read, faulty, readLines, narrow, linesOf, legible, isNowhere, nonDigit, listedAs, kinds, entryOf, fieldAt, testsOf, firstFault, put}
+use Rattle.meaning.specs.Text.{Line, Kind, Entry, Read, faulty, readLines, narrow, linesOf, legible, isNowhere, nonDigit, listedAs, kinds, entryOf, fieldAt, testsOf, firstFault, offsetOf, put}
 use Rattle.frames.specs.Lines.{Legible, Illegible}
 use Rattle.frames.proofs.Breaks.{all-nowhere}
 use Rattle.frames.proofs.Scan.{part, part-length, part-digits, run-lines}
@@ -29,6 +33,22 @@ entryIn text at end = entryOf (kindIn text at end) (fieldsOf text at end)
 
 abbrev pub faultIn : List ℕ → ℕ → ℕ → Read → ℕ
 faultIn text at end s = firstFault 1 (testsOf narrow (lineOf text at end) (fieldsOf text at end) (kindIn text at end) (entryIn text at end) s)
+
+-- the first test that fails is the one with number x, and byte o is named
+pub record Stopped (m : ℕ) (offset : ℕ → ℕ) (x o : ℕ) : Type 0 where
+  pub number : m ≡ x
+  pub byte : offset x ≡ o
+  pub some : 0 < x
+
+unfoldable pub offsetFor : List ℕ → ℕ → ℕ → Read → ℕ → ℕ
+offsetFor text at end s x = offsetOf x (lineOf text at end) (entryIn text at end) s
+
+pub offset-first : (text : List ℕ) (at end : ℕ) (s : Read) (x : ℕ) → eqb x 1 ≡ false → eqb x 6 ≡ false → offsetFor text at end s x ≡ 0
+unfolding offsetFor offsetOf
+offset-first text at end s x e f = rw (e, f)
+
+pub stopped-first : (text : List ℕ) (at end : ℕ) (s : Read) (m x : ℕ) → m ≡ x → eqb x 1 ≡ false → eqb x 6 ≡ false → 0 < x → Stopped m (offsetFor text at end s) x 0
+stopped-first text at end s m x e f g h = record { number = e; byte = offset-first text at end s x f g; some = h }
 
 module _ (text : List ℕ) (at end : ℕ) (g : Legible text at end) where
   pub legible-line : legible (lineOf text at end) ≡ true
@@ -47,12 +67,13 @@ module _ (text : List ℕ) (at end : ℕ) (g : Legible text at end) where
     unfolding readLines
     turn-taken e = rw lines (rw (e, readLines))
 
-    pub turn-faulty : (x : ℕ) → faultIn text at end s ≡ x → 0 < x → readLines narrow line s (linesOf (drop at text)) ≡ faulty (record { number = x; place = line })
-    unfolding readLines
-    turn-faulty zero e h = absurd (omega arith)
-    turn-faulty (suc x) e h = rw lines (rw (e, readLines))
+    pub turn-faulty : (x o : ℕ) → faultIn text at end s ≡ x → offsetFor text at end s x ≡ o → 0 < x
+        → readLines narrow line s (linesOf (drop at text)) ≡ faulty (record { number = x; place = line; offset = o })
+    unfolding readLines offsetFor
+    turn-faulty zero o e f h = absurd (omega arith)
+    turn-faulty (suc x) o e f h = rw lines (rw (e, readLines, f))
 
-pub turn-illegible : (text : List ℕ) (at line : ℕ) (s : Read) → Illegible text at
-    → readLines narrow line s (linesOf (drop at text)) ≡ faulty (record { number = 1; place = line })
-unfolding readLines testsOf firstFault
-turn-illegible text at line s b = rw (b .lines) (rw (b .bad, readLines))
+pub turn-illegible : (text : List ℕ) (at line o : ℕ) (s : Read) → Illegible text at o
+    → readLines narrow line s (linesOf (drop at text)) ≡ faulty (record { number = 1; place = line; offset = o })
+unfolding readLines testsOf firstFault offsetOf
+turn-illegible text at line o s b = rw (b .lines) (rw (b .bad, readLines, b .byte))

@@ -2,6 +2,7 @@
 --     rowOf .. patternOf           what the functions on one line of a phase answer
 --     Rising                       what the lines read so far and the next kind say of the ranks
 --     Stands                       the columns hold what the lines before a place said, and the text's reading goes on from there
+--     meant, Faulty                a refusal as a value of `meaning`; a text that it is given for
 --     ContextPhase .. LiteralsPhase   a phase's promise, by cases of where it ends
 --     sizedOf, LastFault           the length and the fault of a line that no phase reads
 -- Assumes nothing.
@@ -11,6 +12,7 @@ use mathlib.Core.Path.{_≡_}
 use Prim.Native.Nat.{ℕ, suc, _+_, _-_, _*_, _<_, _≤_}
 use lib.Dec.{eqb, ltb}
 use lib.ListN.{length, getD, drop}
+use Rattle.meaning.specs.Text as T
 use Rattle.meaning.specs.Text.{Read, faulty, read, readLines, narrow, linesOf}
 use Rattle.meaning.specs.Columns.{argsIn}
 use Rattle.frames.specs.Choice.{choose}
@@ -78,8 +80,12 @@ pub record Stands (text : List ℕ) (at line m : ℕ) (c : ContextColumns) (k : 
   pub within : Within said line
   pub rising : Rising (kindAt text at) (said .rank) m
 
+-- the refusal that the code's struct stands for
+abbrev pub meant : Refusal → T.Refusal
+meant x = record { number = x .number; place = x .line; offset = x .offset }
+
 abbrev pub Faulty : List ℕ → Refusal → Type 0
-Faulty text x = read narrow text ≡ faulty (record { number = x .number; place = x .line })
+Faulty text x = read narrow text ≡ faulty (meant x)
 
 abbrev pub ContextPhase : List ℕ → ℕ → Next → ContextColumns → Type 0
 ContextPhase text m (At p) c = Stands text (p .at) (p .line) m c noClause
@@ -101,6 +107,6 @@ unfoldable pub sizedOf : List ℕ → ℕ → ℕ → ℕ → Bool
 sizedOf text at end kind =
     choose (eqb kind 1) (termSized text at end) (choose (eqb kind 5) (termSized text at end) (choose (eqb kind 4) (eqb (end - at) 4) (eqb (end - at) 6)))
 
--- its number, whatever stands before it
-pub record LastFault (text : List ℕ) (at x : ℕ) : Type 0 where
-  pub fault : (line : ℕ) (c : ContextColumns) (k : ClauseColumns) → Stands text at line 5 c k → read narrow text ≡ faulty (record { number = x; place = line })
+-- its refusal, whatever stands before it
+pub record LastFault (text : List ℕ) (at line : ℕ) (x : Refusal) : Type 0 where
+  pub fault : (c : ContextColumns) (k : ClauseColumns) → Stands text at line 5 c k → Faulty text x

@@ -63,10 +63,14 @@ pub fn go_on(at: usize, line: u16) -> Next
     Next::At(p)
 }
 
-pub fn refuse(number: u8, line: u16) -> Next
-    ensures { λ r. ⌜ r ≡ Next.Refused (record { number = number; line = line }) ⌝ }
+pub fn refuse(number: u8, line: u16, offset: u16) -> Next
+    ensures { λ r. ⌜ r ≡ Next.Refused (record { number = number; line = line; offset = offset }) ⌝ }
 {
-    let x = Refusal { number, line };
+    let x = Refusal {
+        number,
+        line,
+        offset,
+    };
     Next::Refused(x)
 }
 
@@ -97,15 +101,18 @@ fn read_rows(text: &[u8]) -> ContextRead
         if kind_at(text, at) != 1 {
             break;
         }
-        let Line::Ends(end) = line_at(text, at) else {
-            let next = refuse(1, line);
-            return ContextRead { next, columns: c };
+        let end = match line_at(text, at) {
+            Line::Ends(end) => end,
+            Line::Bad(o) => {
+                let next = refuse(1, line, o);
+                return ContextRead { next, columns: c };
+            }
         };
         let n = c.rows;
         let t = match row_line(text, at, end, &c.symbols, &c.counts, n) {
             Termed::Is(t) => t,
-            Termed::Refused(x) => {
-                let next = refuse(x, line);
+            Termed::Refused(x, o) => {
+                let next = refuse(x, line, o);
                 return ContextRead { next, columns: c };
             }
         };
@@ -158,16 +165,19 @@ fn read_statements(text: &[u8], from: Place, columns: ContextColumns) -> Context
         if 3 < q {
             break;
         }
-        let Line::Ends(end) = line_at(text, at) else {
-            let next = refuse(1, line);
-            return ContextRead { next, columns: c };
+        let end = match line_at(text, at) {
+            Line::Ends(end) => end,
+            Line::Bad(o) => {
+                let next = refuse(1, line, o);
+                return ContextRead { next, columns: c };
+            }
         };
         let kind = q as u8;
         let room = room_for(kind, c.equations, c.differences);
         let p = match pair_line(text, at, end, room, c.rows) {
             Paired::Is(p) => p,
-            Paired::Refused(x) => {
-                let next = refuse(x, line);
+            Paired::Refused(x, o) => {
+                let next = refuse(x, line, o);
                 return ContextRead { next, columns: c };
             }
         };

@@ -22,6 +22,7 @@ use Rattle.meaning.proofs.Promised.{promise-one}
 use Rattle.ledger.specs.declared.ContextColumns.{ContextColumns}
 use Rattle.ledger.specs.declared.ClauseColumns.{ClauseColumns}
 use Rattle.ledger.specs.declared.Refusal.{Refusal}
+use Rattle.ledger.specs.Phases.{meant}
 use Rattle.search.specs.Finding.{foundBy}
 use Rattle.finder.specs.Claims.{said, asked, Ruled, Prepares}
 use Rattle.finder.specs.declared.Answer.{Answer}
@@ -41,7 +42,7 @@ use Rattle.listing.proofs.Whole.{every-ends, text-pieces}
 
 -- ---- the parts
 
-pub limit-long : (n : ℕ) (answer : Answer) → inputLimit < n → A.Refused (record { number = 11; line = 0 }) ≡ limitedBy n answer
+pub limit-long : (n : ℕ) (answer : Answer) → inputLimit < n → A.Refused (record { number = 11; line = 0; offset = 0 }) ≡ limitedBy n answer
 unfolding limitedBy
 limit-long n answer h = rw (limitedBy, lt-ltb inputLimit n h) refl
 
@@ -53,7 +54,7 @@ pub head-ready : (answer : Answer) (l : Line) (s : State) → answer ≡ A.Ready
 head-ready answer l s e p q = subst (Headed answer l) (sym q) (starts e p)
 
 pub head-refused : (answer : Answer) (x : Refusal) (l : Line) (s : State) → answer ≡ A.Refused x
-    → Prints (printed (refused (refusal (x .number) (x .line)))) (l .bytes) (l .len) → s ≡ doneState → Headed answer l s
+    → Prints (printed (refused (meant x))) (l .bytes) (l .len) → s ≡ doneState → Headed answer l s
 head-refused answer x l s e p q = subst (Headed answer l) (sym q) (ends x e p)
 
 -- ---- the input
@@ -65,11 +66,11 @@ headed-begins input a b l s w e h = go (ltb inputLimit (length input)) refl
     short few q s (starts f p) = ready few (subst (Ruled input) (q ∙ f) w) p
     short few q s (ends x f p) = refuses few x (subst (Ruled input) (q ∙ f) w) p
 
-    over-long : inputLimit < length input → (s : State) → Headed (A.Refused (record { number = 11; line = 0 })) l s → Begins input l s
+    over-long : inputLimit < length input → (s : State) → Headed (A.Refused (record { number = 11; line = 0; offset = 0 })) l s → Begins input l s
     over-long h s (starts f p) = absurd (let z : _≡_ {A = ℕ} 0 1 = cc in omega arith)
     over-long h s (ends x f p) =
-        let q : x ≡ record { number = 11; line = 0 } = cc in
-        long h (subst (λ (x : Refusal). Prints (printed (refused (refusal (x .number) (x .line)))) (l .bytes) (l .len)) q p)
+        let q : x ≡ record { number = 11; line = 0; offset = 0 } = cc in
+        long h (subst (λ (x : Refusal). Prints (printed (refused (meant x))) (l .bytes) (l .len)) q p)
 
     go : (t : Bool) → ltb inputLimit (length input) ≡ t → Begins input l s
     go true t =
@@ -101,7 +102,7 @@ begins-one input l m s t (long h p) (ready g w q) = absurd (omega arith)
 begins-one input l m s t (refuses h x v p) (long g q) = absurd (omega arith)
 begins-one input l m s t (refuses h x v p) (refuses g y w q) =
     let e : y ≡ x = refusal-one input y x w v in
-    (line-one (printed (refused (refusal (x .number) (x .line)))) l m p (subst (λ (z : Refusal). Prints (printed (refused (refusal (z .number) (z .line)))) (m .bytes) (m .len)) e q), refl)
+    (line-one (printed (refused (meant x))) l m p (subst (λ (z : Refusal). Prints (printed (refused (meant z))) (m .bytes) (m .len)) e q), refl)
 begins-one input l m s t (refuses h x v p) (ready g w q) = absurd (never-both input x v w)
 begins-one input l m s t (ready h v p) (long g q) = absurd (omega arith)
 begins-one input l m s t (ready h v p) (refuses g x w q) = absurd (never-both input x w v)
@@ -131,7 +132,7 @@ module _ (input : List ℕ) (o : Opened) (opens : Opens input o) where
   abbrev prepared : Prepared
   prepared = record { answer = A.Ready; context = o .context; clause = o .clause; table = o .table }
 
-  ruled-refuses : (x : Refusal) → Ruled input (A.Refused x) → Replies narrow input (refused (refusal (x .number) (x .line)))
+  ruled-refuses : (x : Refusal) → Ruled input (A.Refused x) → Replies narrow input (refused (meant x))
   ruled-refuses x w =
       refused-answers input (record { answer = A.Refused x; context = o .context; clause = o .clause; table = o .table })
       (record { ruled = w; context = opens .context; clause = opens .clause; closed = opens .closed })
@@ -162,8 +163,8 @@ module _ (input : List ℕ) (o : Opened) (opens : Opens input o) where
       go : (s : State) → Begins input (o .line) s → PiecesOf room s out → BreachesPrints narrow input (firstOf ++ out)
       go s (long h p) y = subst (BreachesPrints narrow input) (sym (alone (printed (refused (refusal 11 0))) p y)) (L.long h)
       go s (refuses h x w p) y =
-          subst (BreachesPrints narrow input) (sym (alone (printed (refused (refusal (x .number) (x .line)))) p y))
-          (replies h (unlisted (refusal (x .number) (x .line))) (L.refuses (refusal (x .number) (x .line)) (ruled-refuses x w)))
+          subst (BreachesPrints narrow input) (sym (alone (printed (refused (meant x))) p y))
+          (replies h (unlisted (meant x)) (L.refuses (meant x) (ruled-refuses x w)))
       go s (ready h w p) y =
           subst (λ (z : List ℕ). BreachesPrints narrow input (z ++ out)) (sym (front-of [] (o .line .bytes) (o .line .len) p)) (ready-prints w h room out y)
 

@@ -15,6 +15,7 @@ use Rattle.meaning.specs.Rules.{nothing}
 use Rattle.meaning.specs.Text.{narrow, read}
 use Rattle.meaning.specs.Replies.{refused, refusal, printed, inputLimit}
 use Rattle.ledger.specs.declared.Refusal.{Refusal}
+use Rattle.ledger.specs.Phases.{meant}
 use Rattle.reader.specs.Reads.{contextOf, clauseIn}
 use Rattle.finder.specs.Claims.{said, Ruled}
 use Rattle.finder.specs.declared.Answer.{Answer}
@@ -29,17 +30,17 @@ abbrev pub doneState : State
 doneState = stateAfter nothing
 
 unfoldable pub limitedBy : ℕ → Answer → Answer
-limitedBy length answer = elim (ltb inputLimit length) [ true ↦ Refused (record { number = 11; line = 0 }) | false ↦ answer ]
+limitedBy length answer = elim (ltb inputLimit length) [ true ↦ Refused (record { number = 11; line = 0; offset = 0 }) | false ↦ answer ]
 
 pub data Headed (answer : Answer) (l : Line) : State → Type 0 where
   starts : answer ≡ Ready → Prints [] (l .bytes) (l .len) → Headed answer l startState
-  ends : (x : Refusal) → answer ≡ Refused x → Prints (printed (refused (refusal (x .number) (x .line)))) (l .bytes) (l .len) → Headed answer l doneState
+  ends : (x : Refusal) → answer ≡ Refused x → Prints (printed (refused (meant x))) (l .bytes) (l .len) → Headed answer l doneState
 
 -- 11, then as the finder refuses, or nothing yet
 pub data Begins (input : List ℕ) (l : Line) : State → Type 0 where
   long : inputLimit < length input → Prints (printed (refused (refusal 11 0))) (l .bytes) (l .len) → Begins input l doneState
   refuses : length input ≤ inputLimit → (x : Refusal) → Ruled input (Refused x)
-      → Prints (printed (refused (refusal (x .number) (x .line)))) (l .bytes) (l .len) → Begins input l doneState
+      → Prints (printed (refused (meant x))) (l .bytes) (l .len) → Begins input l doneState
   ready : length input ≤ inputLimit → Ruled input Ready → Prints [] (l .bytes) (l .len) → Begins input l startState
 
 -- where the reader refuses, the columns are those of the empty text, and the table holds each place's own number

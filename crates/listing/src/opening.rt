@@ -48,6 +48,7 @@ fn limit(length: usize, answer: Answer) -> Answer
         let x = Refusal {
             number: 11,
             line: 0,
+            offset: 0,
         };
         return Answer::Refused(x);
     }
@@ -64,7 +65,7 @@ fn begin(answer: Answer) -> Head
             Head { line, state }
         }
         Answer::Refused(x) => {
-            let line = refusal_line(x.number, x.line);
+            let line = refusal_line(x);
             let state = done();
             Head { line, state }
         }

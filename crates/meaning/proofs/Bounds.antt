@@ -1,5 +1,5 @@
 -- Bounds: where the first faulty line can be, and how long a normal text can be.
---     Bounded, read-bounded  a refusal of a text names a line after at most as many as can be taken, and a number from 1 to 7
+--     Bounded, read-bounded  a refusal of a text names a line after at most as many as can be taken, a number from 1 to 7, and a byte up to 65,535
 --     narrow-place           that line is the 846th at the latest
 --     normal-bytes           a normal text has at most 7,898 bytes
 -- Assumes nothing.
@@ -12,7 +12,7 @@ use lib.Dec.{eqb}
 use borrow.Author.Tests.{eq-eqb}
 use lib.ListN.{length, length-append, length-map}
 use Rattle.meaning.specs.Context.{differ, differences, Context, same, Row, Statement}
-use Rattle.meaning.specs.Text.{Line, Limits, row, pattern, literal, Read, rowsOf, patternsOf, put, Entry, putContext, putClause, statement, firstFault, testsOf, fields, Refusal, readLines, read, faulty, nothingRead, linesOf, narrow, linefeed}
+use Rattle.meaning.specs.Text.{Line, Limits, row, pattern, literal, Read, rowsOf, patternsOf, put, Entry, putContext, putClause, statement, firstFault, testsOf, fields, Refusal, readLines, read, faulty, nothingRead, linesOf, narrow, linefeed, furthest, offsetOf}
 use Rattle.meaning.specs.Writing.{frame, hex, rowsText, statementsText, joins, insert, sooner, sorted, contextText, normalOf, lowerFirst}
 use Rattle.meaning.proofs.Lists.{length-snoc}
 use Rattle.meaning.proofs.Lines.{faultIn, kindIn, entryIn, passed, read-step, read-stop, length-hex, Each}
@@ -43,11 +43,16 @@ fault-number : (L : Limits) (line : Line) (s : Read) → faultIn L line s ≤ 7
 unfolding faultIn testsOf
 fault-number L line s = first-fault 0 (testsOf L line (fields (line .bytes)) (kindIn line) (entryIn line) s)
 
+offset-furthest : (n : ℕ) (line : Line) (e : Entry) (s : Read) → offsetOf n line e s ≤ furthest
+unfolding offsetOf
+offset-furthest n line e s = omega arith
+
 pub record Bounded (L : Limits) (r : Refusal) : Type 0 where
   pub numberLow : 1 ≤ r .number
   pub numberHigh : r .number ≤ 7
   pub placeLow : 1 ≤ r .place
   pub placeHigh : r .place ≤ suc (mostLines L)
+  pub offsetHigh : r .offset ≤ furthest
 
 lines-bounded : (L : Limits) (n : ℕ) (s : Read) (lines : List Line) (r : Refusal) → n ≡ suc (linesIn s) → Kept L s → readLines L n s lines ≡ faulty r → Bounded L r
 unfolding readLines
@@ -59,10 +64,11 @@ lines-bounded L n s (line ∷ lines) r h k e = go (faultIn L line s) refl (lines
         → Bounded L r
     go zero z ih = ih (omega (arith, put-lines (entryIn line) s)) (line-kept L line s (passed L line s z) k) (sym (read-step L n s line lines z) ∙ e)
     go (suc f) z ih =
-        let q : faulty (record { number = suc f; place = n }) ≡ faulty r = sym (read-stop L n s line lines f z) ∙ e in
-        let v : record { number = suc f; place = n } ≡ r = cc in
+        let o : ℕ = offsetOf (suc f) line (entryIn line) s in
+        let q : faulty (record { number = suc f; place = n; offset = o }) ≡ faulty r = sym (read-stop L n s line lines f z) ∙ e in
+        let v : record { number = suc f; place = n; offset = o } ≡ r = cc in
         let m : suc f ≤ 7 = omega (arith, fault-number L line s) in
-        subst (Bounded L) v (record { numberLow = omega arith; numberHigh = m; placeLow = omega arith; placeHigh = omega arith })
+        subst (Bounded L) v (record { numberLow = omega arith; numberHigh = m; placeLow = omega arith; placeHigh = omega arith; offsetHigh = offset-furthest (suc f) line (entryIn line) s })
 
 pub read-bounded : (L : Limits) (text : List ℕ) (r : Refusal) → read L text ≡ faulty r → Bounded L r
 unfolding read

@@ -11,7 +11,7 @@ use borrow.Author.Tests.{le-leb, le-ltb}
 use lib.ListN.{length, replicate, length-replicate, getD-replicate}
 use Rattle.meaning.specs.Context.{Row, Context, equationsOf, differencesOf, rowAt, row₀}
 use Rattle.meaning.specs.Rules.{Below}
-use Rattle.meaning.specs.Text.{narrow, taken, Read, read, rowsOf, testsOf, legible, nonDigit, firstFailing, isNowhere, digit, fields, known, isListed, listedAs, sized, sizeOf, entryOf, ranked, rankOf, room, firstFault, linesOf, linesFrom, faulty, readLines}
+use Rattle.meaning.specs.Text.{narrow, taken, Read, read, rowsOf, testsOf, legible, nonDigit, firstFailing, isNowhere, digit, fields, known, isListed, listedAs, sized, sizeOf, entryOf, ranked, rankOf, room, firstFault, linesOf, linesFrom, faulty, readLines, offsetOf}
 use Rattle.meaning.specs.Writing.{frame, contextText, statementsText, rowsText, hex, digitOf}
 use Rattle.meaning.proofs.Lines.{Each, faultIn, whole, frame-line, read-stop}
 use Rattle.meaning.proofs.Kept.{RowFits, rankHeld}
@@ -85,16 +85,17 @@ line-alone : linesOf line ≡ whole (hex bytesOf) ∷ []
 unfolding linesOf linesFrom
 line-alone = ap linesOf (sym (append-nil line)) ∙ frame-line bytesOf []
 
-constants-over : (n : ℕ) → n ≡ 255 → read narrow (constants (suc n)) ≡ faulty (record { number = 5; place = suc n })
+constants-over : (n : ℕ) → n ≡ 255 → read narrow (constants (suc n)) ≡ faulty (record { number = 5; place = suc n; offset = 0 })
+unfolding offsetOf
 constants-over n h =
     ap (λ x. read narrow x) (constants-snoc n ∙ ap (λ x. x ++ line) (constants-text n))
     ∙ read-back narrow narrow-bytes (table n) (table-writable n (omega arith)) line
     ∙ ap (λ x. readLines narrow (suc (length rs + 0)) (holding rs []) x) line-alone
     ∙ read-stop narrow (suc (length rs + 0)) (holding rs []) (whole (hex bytesOf)) [] 4 (line-over rs (omega (arith, length-replicate n constant)))
-    ∙ ap (λ (m : ℕ). faulty (record { number = 5; place = m })) (omega (arith, length-replicate n constant))
+    ∙ ap (λ (m : ℕ). faulty (record { number = 5; place = m; offset = 0 })) (omega (arith, length-replicate n constant))
   where
     rs : List Row
     rs = replicate n constant
 
-pub constants-refused : read narrow (constants 256) ≡ faulty (record { number = 5; place = 256 })
+pub constants-refused : read narrow (constants 256) ≡ faulty (record { number = 5; place = 256; offset = 0 })
 constants-refused = constants-over 255 refl

@@ -53,6 +53,7 @@ pub mod ListingPrints
 pub mod Sheet
 pub mod ListingSheet
 pub mod Controls
+pub mod BadBytes
 pub mod Grounded
 pub mod Entries
 pub mod Faithful

@@ -21,7 +21,7 @@ use lib.Dec.{eqb, ltb}
 use borrow.Author.Tests.{eqb-true, eqb-false, eq-eqb, ne-eqb, ltb-true, ltb-false, lt-ltb, le-leb, lt-leb}
 use lib.ListN.{length}
 use Rattle.meaning.specs.Rules.{Below}
-use Rattle.meaning.specs.Text.{Line, linefeed, linesFrom, linesOf, digit, fields, fieldAt, Kind, kinds, listedAs, entryOf, Entry, Read, put, Limits, firstFailing, isNowhere, nonDigit, legible, known, sized, ranked, room, refers, agrees, testsOf, firstFault, faulty, taken, readLines, read, nothingRead}
+use Rattle.meaning.specs.Text.{Line, linefeed, linesFrom, linesOf, digit, fields, fieldAt, Kind, kinds, listedAs, entryOf, Entry, Read, put, Limits, firstFailing, isNowhere, nonDigit, legible, known, sized, ranked, room, refers, agrees, testsOf, firstFault, offsetOf, faulty, taken, readLines, read, nothingRead}
 use Rattle.meaning.specs.Writing.{digitOf, hex, frame}
 use Rattle.meaning.proofs.Logic.{and-true-right, false-true}
 
@@ -210,7 +210,8 @@ module _ (L : Limits) (n : ℕ) (s : Read) (line : Line) (lines : List Line) whe
   unfolding faultIn readLines
   read-step e = rw (e, readLines)
 
-  pub read-stop : (f : ℕ) → faultIn L line s ≡ suc f → readLines L n s (line ∷ lines) ≡ faulty (record { number = suc f; place = n })
+  pub read-stop : (f : ℕ) → faultIn L line s ≡ suc f
+      → readLines L n s (line ∷ lines) ≡ faulty (record { number = suc f; place = n; offset = offsetOf (suc f) line (entryIn line) s })
   unfolding faultIn readLines
   read-stop f e = rw (e, readLines)
 

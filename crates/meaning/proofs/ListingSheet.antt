@@ -12,7 +12,7 @@ use borrow.Author.Tests.{leb-true, not-true}
 use lib.ListN.{length}
 use Rattle.meaning.specs.Context.{equationsOf, differencesOf}
 use Rattle.meaning.specs.Rules.{variables}
-use Rattle.meaning.specs.Text.{narrow, read, readLines, linesOf, linesFrom, digit, fields, isListed, listedAs, sizeOf, entryOf, rankOf, putContext, put, putClause, firstFailing, isNowhere, nonDigit, legible, known, sized, ranked, room, namedBy, tableOf, noRow, refers, rowsAgree, patternsAgree, agrees, testsOf, firstFault}
+use Rattle.meaning.specs.Text.{narrow, read, readLines, linesOf, linesFrom, digit, fields, isListed, listedAs, sizeOf, entryOf, rankOf, putContext, put, putClause, firstFailing, isNowhere, nonDigit, legible, known, sized, ranked, room, namedBy, tableOf, noRow, refers, rowsAgree, patternsAgree, agrees, testsOf, firstFault, spotOr, badByte, namesFrom, badField, offsetOf}
 use Rattle.meaning.specs.Writing.{digitOf, hex, frame}
 use Rattle.meaning.specs.Replies.{codeOf, valuesOf, printed, inputLimit}
 use Rattle.meaning.specs.ByTable.{sameList, clashOf, clashFrom, apartBy}
@@ -74,9 +74,9 @@ outputs =
     -- a variable, and no row
     ∷ ("0400\n060000\n", "09\n")
     -- refusals 1, 8 and 9
-    ∷ ("0100010\n", "0A010001\n")
-    ∷ ("01000100\n0400\n", "0A080000\n")
-    ∷ ("01000100\n030000\n0400\n060000\n", "0A090001\n")
+    ∷ ("0100010\n", "0A0100010007\n")
+    ∷ ("01000100\n0400\n", "0A0800000000\n")
+    ∷ ("01000100\n030000\n0400\n060000\n", "0A0900010000\n")
     ∷ []
 
 unfoldable pub wrongs : List Case
@@ -86,11 +86,11 @@ wrongs =
     ∷ ("01000100\n01000200\n01000300\n020102\n0400\n060000\n", "080100\n080101\n080102\n09\n")
     ∷ ("01000100\n01000200\n01000300\n020102\n0400\n060000\n", "080101\n080100\n09\n")
     ∷ ("01000100\n01000200\n01000300\n020102\n0400\n060000\n", "080100\n080101\n")
-    ∷ ("01000100\n030000\n0400\n060000\n", "0A090001\n09\n")
+    ∷ ("01000100\n030000\n0400\n060000\n", "0A0900010000\n09\n")
     ∷ []
 
 unfoldable all : (Case → Bool) → List Case → Bool
-unfolding same other bytes printedListing listingOf listingOn listingBy L.linesOf printed codeOf valuesOf frame hex digitOf everyBy every eachOf judge verdict clashOf clashFrom read readLines linesOf linesFrom digit fields isListed listedAs sizeOf entryOf rankOf putContext putClause put firstFailing isNowhere nonDigit legible known sized ranked room namedBy tableOf noRow refers rowsAgree patternsAgree agrees testsOf firstFault equationsOf differencesOf firstBy seek tryAll orElse lowest breaks allHoldBy holdsBy numbers stages number step numberOf met isOver held rowsAt levels levelsFrom levelOf highest apartBy sameList variables close rounds round rowsPass rowPass statedPass upto uniteIf agree unite count move total
+unfolding same other bytes printedListing listingOf listingOn listingBy L.linesOf printed codeOf valuesOf frame hex digitOf everyBy every eachOf judge verdict clashOf clashFrom read readLines linesOf linesFrom digit fields isListed listedAs sizeOf entryOf rankOf putContext putClause put firstFailing isNowhere nonDigit legible known sized ranked room namedBy tableOf noRow refers rowsAgree patternsAgree agrees testsOf firstFault spotOr badByte namesFrom badField offsetOf equationsOf differencesOf firstBy seek tryAll orElse lowest breaks allHoldBy holdsBy numbers stages number step numberOf met isOver held rowsAt levels levelsFrom levelOf highest apartBy sameList variables close rounds round rowsPass rowPass statedPass upto uniteIf agree unite count move total
 all test [] = true
 all test (e ∷ es) = test e && all test es
 

@@ -23,6 +23,10 @@ pub and-none : (a b : Bool) → (a && b) ≡ false → a ≡ true → b ≡ fals
 and-none true b e f = e
 and-none false b e f = cc
 
+pub and-false : (a : Bool) → (a && false) ≡ false
+and-false true = refl
+and-false false = refl
+
 pub or-cases : (a b : Bool) → (a || b) ≡ true → (a ≡ true) ⊎ (b ≡ true)
 or-cases true b e = inl refl
 or-cases false b e = inr e

@@ -2,7 +2,7 @@
 -- Assumes nothing.
 use mathlib.Core.Bool.{Bool, true, false, _&&_}
 use mathlib.Core.List.{List, [], _∷_}
-use mathlib.Core.Path.{_≡_, refl, ap, ap₂, subst}
+use mathlib.Core.Path.{_≡_, refl, ap, ap₂, subst, _∙_}
 use Prim.Native.Nat.{ℕ, _<_}
 use native.Mathlib.Omega.{arith}
 use lib.Dec.{eqb, ltb}
@@ -10,13 +10,13 @@ use borrow.Author.Tests.{eqb-true, ltb-true}
 use lib.ListN.{length}
 use Rattle.meaning.specs.Context.{equations, Context, equationsOf, differencesOf}
 use Rattle.meaning.specs.Rules.{variables}
-use Rattle.meaning.specs.Text.{Reading, faulty, taken, rowsOf, read, narrow, readLines, linesOf, linesFrom, digit, fields, isListed, listedAs, sizeOf, entryOf, rankOf, putContext, put, putClause, firstFailing, isNowhere, nonDigit, legible, known, sized, ranked, room, namedBy, tableOf, noRow, refers, rowsAgree, patternsAgree, agrees, testsOf, firstFault}
-use Rattle.meaning.specs.Replies.{Reply, breach, none, refused, refusal, Replies}
+use Rattle.meaning.specs.Text.{Reading, faulty, taken, rowsOf, read, narrow, readLines, linesOf, linesFrom, digit, fields, isListed, listedAs, sizeOf, entryOf, rankOf, putContext, put, putClause, firstFailing, isNowhere, nonDigit, legible, known, sized, ranked, room, namedBy, tableOf, noRow, refers, rowsAgree, patternsAgree, agrees, testsOf, firstFault, spotOr, badByte, namesFrom, badField, offsetOf}
+use Rattle.meaning.specs.Replies.{Reply, breach, none, refused, Replies}
 use Rattle.meaning.specs.Formed.{Fit}
 use Rattle.meaning.specs.ByTable.{sameList, clashOf, clashFrom, apartBy}
 use Rattle.meaning.specs.Values.{numbers, number, stages, step, numberOf, met, isOver, held, rowsAt, levels, levelsFrom, levelOf, highest}
 use Rattle.meaning.specs.FirstBy.{firstBy, seek, tryAll, orElse, lowest, breaks, allHoldBy, holdsBy}
-use Rattle.meaning.specs.Sheet.{Example, gets, bytes, represents, equates, Shown, AllShown, sheet, further}
+use Rattle.meaning.specs.Sheet.{Example, gets, bytes, represents, equates, Shown, AllShown, sheet, further, fault, bytesNamed}
 use Rattle.meaning.proofs.Logic.{and-true-left, and-true-right}
 use Rattle.meaning.proofs.Lists.{sameList-true}
 use Rattle.meaning.proofs.Progress.{move, total}
@@ -35,7 +35,7 @@ sameReply none none = true
 sameReply none (refused r) = false
 sameReply (refused r) (breach m) = false
 sameReply (refused r) none = false
-sameReply (refused r) (refused s) = eqb (r .number) (s .number) && eqb (r .place) (s .place)
+sameReply (refused r) (refused s) = (eqb (r .number) (s .number) && eqb (r .place) (s .place)) && eqb (r .offset) (s .offset)
 
 same-reply : (r s : Reply) → sameReply r s ≡ true → r ≡ s
 unfolding sameReply
@@ -48,9 +48,13 @@ same-reply none (refused r) t = cc
 same-reply (refused r) (breach m) t = cc
 same-reply (refused r) none t = cc
 same-reply (refused r) (refused s) t =
-    let n : r .number ≡ s .number = eqb-true _ _ (and-true-left (eqb (r .number) (s .number)) (eqb (r .place) (s .place)) t) in
-    let p : r .place ≡ s .place = eqb-true _ _ (and-true-right (eqb (r .number) (s .number)) (eqb (r .place) (s .place)) t) in
-    ap₂ (λ (x y : ℕ). refused (refusal x y)) n p
+    let a : Bool = eqb (r .number) (s .number) in
+    let b : Bool = eqb (r .place) (s .place) in
+    let c : Bool = eqb (r .offset) (s .offset) in
+    let n : r .number ≡ s .number = eqb-true _ _ (and-true-left a b (and-true-left (a && b) c t)) in
+    let p : r .place ≡ s .place = eqb-true _ _ (and-true-right a b (and-true-left (a && b) c t)) in
+    let o : r .offset ≡ s .offset = eqb-true _ _ (and-true-right (a && b) c t) in
+    ap₂ (λ (x y : ℕ). refused (fault x y (r .offset))) n p ∙ ap (λ (z : ℕ). refused (fault (s .number) (s .place) z)) o
 
 unfoldable represented : List ℕ → Reading → Bool
 represented l (faulty f) = false
@@ -67,7 +71,7 @@ test (represents text l) = represented l (read narrow (bytes text))
 test (equates text i j) = equated i j (read narrow (bytes text))
 
 unfoldable tests : List Example → Bool
-unfolding sameReply represented equated test bytes replyTo replyOn judge verdict clashOf clashFrom read readLines linesOf linesFrom digit fields isListed listedAs sizeOf entryOf rankOf putContext putClause put firstFailing isNowhere nonDigit legible known sized ranked room namedBy tableOf noRow refers rowsAgree patternsAgree agrees testsOf firstFault equationsOf differencesOf firstBy seek tryAll orElse lowest breaks allHoldBy holdsBy numbers stages number step numberOf met isOver held rowsAt levels levelsFrom levelOf highest apartBy sameList variables close rounds round rowsPass rowPass statedPass upto uniteIf agree unite count move total
+unfolding sameReply represented equated test bytes replyTo replyOn judge verdict clashOf clashFrom read readLines linesOf linesFrom digit fields isListed listedAs sizeOf entryOf rankOf putContext putClause put firstFailing isNowhere nonDigit legible known sized ranked room namedBy tableOf noRow refers rowsAgree patternsAgree agrees testsOf firstFault spotOr badByte namesFrom badField offsetOf equationsOf differencesOf firstBy seek tryAll orElse lowest breaks allHoldBy holdsBy numbers stages number step numberOf met isOver held rowsAt levels levelsFrom levelOf highest apartBy sameList variables close rounds round rowsPass rowPass statedPass upto uniteIf agree unite count move total
 tests [] = true
 tests (e ∷ es) = test e && tests es
 
@@ -109,3 +113,7 @@ sheet-shown = all-shown sheet refl
 pub further-shown : AllShown further
 unfolding further tests
 further-shown = all-shown further refl
+
+pub bytes-shown : AllShown bytesNamed
+unfolding bytesNamed tests
+bytes-shown = all-shown bytesNamed refl

@@ -1,5 +1,5 @@
--- A reply as one number, for programs in other languages: kind + 256 · number + 65,536 · place, with room for an offset above it.
---     packedReply      the finder's: kind 8 with the number of variables, 9, or 10 with a refusal's number and place
+-- A reply as one number, for programs in other languages: kind + 256 · number + 65,536 · place + 4,294,967,296 · offset.
+--     packedReply      the finder's: kind 8 with the number of variables, 9, or 10 with a refusal's number, place and offset
 --     packedWritten    the normaliser's: kind 0 with how many bytes were written, or 10 with a refusal
 -- Assumes nothing.
 use Prim.Native.Nat.{ℕ, _+_, _*_}
@@ -8,7 +8,7 @@ use Rattle.meaning.specs.Text.{Refusal}
 use Rattle.meaning.specs.Replies.{Reply, breach, none, refused, Written, wrote, unwritten}
 
 abbrev pub packedRefusal : Refusal → ℕ
-packedRefusal r = 10 + 256 * r .number + 65536 * r .place
+packedRefusal r = 10 + 256 * r .number + 65536 * r .place + 4294967296 * r .offset
 
 unfoldable pub packedReply : Reply → ℕ
 packedReply (breach a) = 8 + 256 * length a

@@ -15,8 +15,9 @@ use Rattle.meaning.specs.Rules.{Clause, Found, found, nothing, Answers}
 use Rattle.meaning.specs.Text.{Limits, Refusal, Reading, faulty, taken, read}
 use Rattle.meaning.specs.Writing.{frame, contextText, normalOf}
 
+-- a refusal that names no byte: 8 to 11
 abbrev pub refusal : ℕ → ℕ → Refusal
-refusal n p = record { number = n; place = p }
+refusal n p = record { number = n; place = p; offset = 0 }
 
 -- ---- the finder
 pub data Reply : Type 0 where
@@ -32,7 +33,7 @@ codeOf (refused r) = 10
 unfoldable pub valuesOf : Reply → List ℕ
 valuesOf (breach a) = length a ∷ a
 valuesOf none = []
-valuesOf (refused r) = r .number ∷ r .place / 256 ∷ r .place % 256 ∷ []
+valuesOf (refused r) = r .number ∷ r .place / 256 ∷ r .place % 256 ∷ r .offset / 256 ∷ r .offset % 256 ∷ []
 
 -- four rows, unused places 255
 unfoldable pub placesOf : Reply → List ℕ

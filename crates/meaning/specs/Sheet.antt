@@ -2,6 +2,7 @@
 --     Example, Shown     a text with the finder's reply, with its rows' representatives, or with two rows that are equal
 --     sheet              the twelve cases of the rule paper
 --     further            cases that show what is easily got wrong
+--     bytesNamed         refused lines with the byte that the refusal names
 -- Assumes nothing.
 use mathlib.Core.List.{List, [], _∷_}
 use mathlib.Core.Path.{_≡_}
@@ -11,7 +12,7 @@ use Prim.Native.String as S
 use lib.ListN.{length}
 use Rattle.meaning.specs.Context.{termAt}
 use Rattle.meaning.specs.Equality.{EqualIn, Representatives, repAt}
-use Rattle.meaning.specs.Text.{narrow, Read, rowsOf, taken, read}
+use Rattle.meaning.specs.Text.{narrow, Read, Refusal, rowsOf, taken, read}
 use Rattle.meaning.specs.Replies.{refusal, Reply, breach, none, refused, Replies}
 
 -- the bytes of a quoted text whose characters are ASCII
@@ -84,4 +85,28 @@ further =
     ∷ gets "01000100\n0400\n0500010100\n060000\n" (refused (refusal 7 3))
     -- row a; x0, x1, f(x1), f(x0), f(x0); row 4 = row 3, row 2 = row 3
     ∷ gets "01000100\n0400\n0401\n0501010101\n0501010100\n0501010100\n060403\n060203\n" (breach (0 ∷ 0 ∷ []))
+    ∷ []
+
+-- a refusal with the line and the byte
+abbrev pub fault : ℕ → ℕ → ℕ → Refusal
+fault n p o = record { number = n; place = p; offset = o }
+
+unfoldable pub bytesNamed : List Example
+bytesNamed =
+    -- a small letter; the same behind an odd number of digits, and without a line feed
+    gets "01000100\n0a\n" (refused (fault 1 2 1))
+    ∷ gets "01zz0\n" (refused (fault 1 1 2))
+    -- digits alone: as many as there are
+    ∷ gets "010\n" (refused (fault 1 1 3))
+    ∷ gets "01000100" (refused (fault 1 1 8))
+    ∷ gets "\n" (refused (fault 1 1 0))
+    -- an argument of row 1 is not there: the first, the second, both
+    ∷ gets "01000100\n010101020100\n" (refused (fault 6 2 8))
+    ∷ gets "01000100\n010101020001\n" (refused (fault 6 2 10))
+    ∷ gets "01000100\n010101020102\n" (refused (fault 6 2 8))
+    -- a side of a pair is not there: the first, the second
+    ∷ gets "01000100\n020100\n" (refused (fault 6 2 2))
+    ∷ gets "0400\n060001\n" (refused (fault 6 2 4))
+    -- any other number names the line's first byte
+    ∷ gets "01000100\n0404\n" (refused (fault 5 2 0))
     ∷ []

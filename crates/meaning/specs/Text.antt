@@ -3,11 +3,12 @@
 --     kinds, entryOf         the kinds of line by their numbers; what a line of a kind adds
 --     Limits, narrow         how much a text may have
 --     legible .. agrees      what refusals 1 to 7 test, each under its number
+--     offsetOf               the byte of its line that a refusal names
 --     read                   what a text says, or its refusal: the first faulty line, and there the lowest number
 -- Assumes nothing.
 use mathlib.Core.Bool.{Bool, true, false, not, _&&_, _||_}
 use mathlib.Core.List.{List, [], _∷_, _++_}
-use Prim.Native.Nat.{ℕ, zero, suc, _+_, _-_, _*_, _%_}
+use Prim.Native.Nat.{ℕ, zero, suc, _+_, _-_, _*_, _%_, min}
 use lib.Dec.{eqb, ltb, leb}
 use lib.ListN.{length, getD, drop}
 use Rattle.meaning.specs.Context.{Row, Context, Statement, same, differ}
@@ -246,10 +247,37 @@ unfoldable pub firstFault : ℕ → List Bool → ℕ
 firstFault n [] = 0
 firstFault n (b ∷ l) = elim b [ true ↦ firstFault (suc n) l | false ↦ n ]
 
--- ---- the whole text, or its refusal: a number, and the line or ordinal that it names
+-- ---- the byte of its line that a refusal names, counted from 0, by the tests that refuse the line; it is byte 65,535 at the furthest
+abbrev pub furthest : ℕ
+furthest = 65535
+
+unfoldable pub spotOr : ℕ → Spot → ℕ
+spotOr n (at i) = i
+spotOr n nowhere = n
+
+-- 1: the first byte that is no digit, else the line's length
+unfoldable pub badByte : Line → ℕ
+badByte line = spotOr (length (line .bytes)) (nonDigit (line .bytes))
+
+-- 6: the first digit of the first field that names no row; the fields that name rows begin with this one
+unfoldable pub namesFrom : Entry → ℕ
+namesFrom (row r) = 4
+namesFrom (statement l) = 1
+namesFrom (pattern p) = 4
+namesFrom (literal l) = 1
+
+unfoldable pub badField : Entry → Read → ℕ
+badField e s = (namesFrom e + spotOr 0 (noRow e s)) * 2
+
+-- the others: the first byte
+unfoldable pub offsetOf : ℕ → Line → Entry → Read → ℕ
+offsetOf number line e s = min furthest (elim (eqb number 1) [ true ↦ badByte line | false ↦ elim (eqb number 6) [ true ↦ badField e s | false ↦ 0 ] ])
+
+-- ---- the whole text, or its refusal: a number, the line or ordinal that it names, and the byte of that line
 pub record Refusal : Type 0 where
   pub number : ℕ
   pub place : ℕ
+  pub offset : ℕ
 
 pub data Reading : Type 0 where
   faulty : Refusal → Reading
@@ -264,7 +292,7 @@ readLines L n s (line ∷ lines) =
     let e : Entry = entryOf k l in
     elim (firstFault 1 (testsOf L line l k e s)) [
       | zero ↦ readLines L (suc n) (put e s) lines
-      | suc f ↦ faulty (record { number = suc f; place = n })
+      | suc f ↦ faulty (record { number = suc f; place = n; offset = offsetOf (suc f) line e s })
     ]
 
 unfoldable pub read : Limits → List ℕ → Reading

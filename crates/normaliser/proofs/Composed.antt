@@ -19,6 +19,7 @@ use Rattle.meaning.specs.ByTable.{clashOf}
 use Rattle.meaning.specs.Replies.{Settled, contradicts, normal, abnormal, refusal, Leaves, stays, Writes, NormalisesTo}
 use Rattle.meaning.proofs.Apartness.{clash-first}
 use Rattle.meaning.proofs.Answered.{settles-by, writes-one}
+use Rattle.ledger.specs.Phases.{meant}
 use Rattle.ledger.specs.Columns.{contextColumns}
 use Rattle.reader.specs.Reads.{Reads, toldBy, toldOf, contextOf}
 use Rattle.reader.specs.declared.Answer.the-variants as R
@@ -67,7 +68,7 @@ module _ (c : ContextColumns) (held : Held c) (z : Classes) (closed : ClosedIn c
   pub clash-fits : (n : ℕ) → r ≡ First n → Fits w16 (n + 1)
   clash-fits n e = omega (arith, clash-high c held t r clash n e)
 
-  pub settle-clash : (lent : List ℕ) (n : ℕ) → r ≡ First n → Settles c lent (Refused (record { number = 9; line = n + 1 })) lent
+  pub settle-clash : (lent : List ℕ) (n : ℕ) → r ≡ First n → Settles c lent (Refused (record { number = 9; line = n + 1; offset = 0 })) lent
   settle-clash lent n e =
       record {
         result = abnormal (refusal 9 (suc n));
@@ -82,7 +83,7 @@ module _ (c : ContextColumns) (held : Held c) (z : Classes) (closed : ClosedIn c
     pub settle-wrote : (n : ℕ) → w ≡ Variant.Wrote n → Settles c lent (Wrote n) after
     settle-wrote n e = record { result = normal (textBy c t); settled = settled-text clearly; leaves = rw e at leaves }
 
-    pub settle-short : w ≡ Variant.Short → Settles c lent (Refused (record { number = 10; line = 0 })) after
+    pub settle-short : w ≡ Variant.Short → Settles c lent (Refused (record { number = 10; line = 0; offset = 0 })) after
     settle-short e = record { result = normal (textBy c t); settled = settled-text clearly; leaves = rw e at leaves }
 
 -- ---- and above it
@@ -92,11 +93,12 @@ normalise-refused text lent r x w e = go (read narrow text) refl (rw e at (w .to
   where
     go : (y : M.Reading) → read narrow text ≡ y → toldBy (R.Refused x) ≡ toldOf (read narrow text) → Writes narrow text lent (writtenBy (Refused x)) lent
     go (faulty f) q h =
-        let v : x .number ∷ x .line ∷ [] ≡ f .number ∷ f .place ∷ [] = rw q at h in
+        let v : x .number ∷ x .line ∷ x .offset ∷ [] ≡ f .number ∷ f .place ∷ f .offset ∷ [] = rw q at h in
         let n : x .number ≡ f .number = cc in
         let p : x .line ≡ f .place = cc in
-        record { result = abnormal f; normalises = subst (λ (z : M.Reading). NormalisesTo z (abnormal f)) (sym q) refl; leaves = rw (n, p) (stays f) }
-    go (taken s) q h = absurd (let v : x .number ∷ x .line ∷ [] ≡ [] = rw q at h in let z : _≡_ {A = ℕ} 0 1 = cc in omega arith)
+        let o : x .offset ≡ f .offset = cc in
+        record { result = abnormal f; normalises = subst (λ (z : M.Reading). NormalisesTo z (abnormal f)) (sym q) refl; leaves = rw (n, p, o) (stays f) }
+    go (taken s) q h = absurd (let v : x .number ∷ x .line ∷ x .offset ∷ [] ≡ [] = rw q at h in let z : _≡_ {A = ℕ} 0 1 = cc in omega arith)
 
 module _ (text : List ℕ) (r : Reading) (reads : Reads text r) (whole : r .answer ≡ R.Taken) where
   taken-read : (s : Read) × (read narrow text ≡ taken s)
@@ -104,7 +106,7 @@ module _ (text : List ℕ) (r : Reading) (reads : Reads text r) (whole : r .answ
     where
       go : (y : M.Reading) → read narrow text ≡ y → (s : Read) × (read narrow text ≡ taken s)
       go (taken s) q = (s, q)
-      go (faulty f) q = absurd (let v : [] ≡ f .number ∷ f .place ∷ [] = rw (whole, q) at (reads .told) in let z : _≡_ {A = ℕ} 0 1 = cc in omega arith)
+      go (faulty f) q = absurd (let v : [] ≡ f .number ∷ f .place ∷ f .offset ∷ [] = rw (whole, q) at (reads .told) in let z : _≡_ {A = ℕ} 0 1 = cc in omega arith)
 
   taken-columns : r .context ≡ contextColumns (taken-read .0 .ledger)
   taken-columns = reads .context ∙ ap contextOf (taken-read .1)
@@ -129,10 +131,11 @@ written-by-one (Wrote n) (Wrote m) e = cc
 written-by-one (Wrote n) (Refused y) e = absurd (let z : _≡_ {A = ℕ} 0 1 = cc in omega arith)
 written-by-one (Refused x) (Wrote m) e = absurd (let z : _≡_ {A = ℕ} 0 1 = cc in omega arith)
 written-by-one (Refused x) (Refused y) e =
-    let q : refusal (x .number) (x .line) ≡ refusal (y .number) (y .line) = cc in
+    let q : meant x ≡ meant y = cc in
     let n : x .number ≡ y .number = ap (λ (r : M.Refusal). r .number) q in
     let l : x .line ≡ y .line = ap (λ (r : M.Refusal). r .place) q in
-    ap Refused (rw (n, l))
+    let o : x .offset ≡ y .offset = ap (λ (r : M.Refusal). r .offset) q in
+    ap Refused (rw (n, l, o))
 
 pub normalise-one : (text lent a b : List ℕ) (r s : Written) → Writes narrow text lent (writtenBy r) a → Writes narrow text lent (writtenBy s) b → (r ≡ s) × (a ≡ b)
 normalise-one text lent a b r s p q =

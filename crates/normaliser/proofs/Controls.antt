@@ -26,7 +26,7 @@ pub no-swapped-digits : printed none ≡ 57 ∷ 48 ∷ 10 ∷ [] → ⊥
 unfolding printed codeOf valuesOf frame hex digitOf
 no-swapped-digits e = let z : _≡_ {A = ℕ} 48 57 = ap (λ (l : List ℕ). getD l 0 0) e in omega arith
 
-pub no-low-first : printed (refused (refusal 1 2)) ≡ frame (10 ∷ 1 ∷ 2 ∷ 0 ∷ []) → ⊥
+pub no-low-first : printed (refused (refusal 1 2)) ≡ frame (10 ∷ 1 ∷ 2 ∷ 0 ∷ 0 ∷ 0 ∷ []) → ⊥
 unfolding printed codeOf valuesOf frame hex digitOf
 no-low-first e = let z : _≡_ {A = ℕ} 48 50 = ap (λ (l : List ℕ). getD l 5 0) e in omega arith
 

@@ -10,7 +10,9 @@ use borrow.Author.Needs.{needs}
 use lib.ListN.{length, getD, take, drop, replicate, length-map, length-take}
 use lib.Seq.{length-take-le, take-nil}
 use Rattle.meaning.specs.Writing.{frame}
-use Rattle.meaning.specs.Replies.{breach, none, refused, refusal, printed, codeOf, valuesOf}
+use Rattle.meaning.specs.Replies.{breach, none, refused, printed, codeOf, valuesOf}
+use Rattle.ledger.specs.Phases.{meant}
+use Rattle.ledger.specs.declared.Refusal.{Refusal}
 use Rattle.normaliser.specs.Pieces.{low8, Put, LineRoom}
 use Rattle.normaliser.specs.Prints.{Prints}
 use Rattle.normaliser.proofs.Stores.{put-whole}
@@ -80,9 +82,9 @@ pub none-printed : (bytes : List ℕ) (len : ℕ) → Prints (frame (take 1 (9 �
 unfolding printed codeOf valuesOf
 none-printed bytes len p = p
 
-pub refusal-printed : (bytes : List ℕ) (number place high low len : ℕ) → high ≡ place / 256 → low ≡ low8 place
-    → Prints (frame (take 4 (10 ∷ number ∷ high ∷ low ∷ 0 ∷ 0 ∷ 0 ∷ 0 ∷ []))) bytes len → Prints (printed (refused (refusal number place))) bytes len
+pub refusal-printed : (x : Refusal) (bytes : List ℕ) (a b c d len : ℕ) → a ≡ x .line / 256 → b ≡ low8 (x .line) → c ≡ x .offset / 256 → d ≡ low8 (x .offset)
+    → Prints (frame (take 6 (10 ∷ x .number ∷ a ∷ b ∷ c ∷ d ∷ 0 ∷ 0 ∷ []))) bytes len → Prints (printed (refused (meant x))) bytes len
 unfolding printed codeOf valuesOf
-refusal-printed bytes number place high low len d e p = rw (← d, ← e) p
+refusal-printed x bytes a b c d len ea eb ec ed p = rw (← ea, ← eb, ← ec, ← ed) p
 
 pub ruleset mine = (needs, line-room, line-printed, breach-printed, none-printed, refusal-printed)

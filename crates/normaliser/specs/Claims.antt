@@ -8,7 +8,8 @@ use Prim.Native.Nat.{ℕ}
 use Rattle.meaning.specs.Equality.{repAt, Promise}
 use Rattle.meaning.specs.Writing.{contextText, normalOf}
 use Rattle.meaning.specs.Replies as M
-use Rattle.meaning.specs.Replies.{Normalised, Settled, Leaves, refusal}
+use Rattle.meaning.specs.Replies.{Normalised, Settled, Leaves}
+use Rattle.ledger.specs.Phases.{meant}
 use Rattle.finder.specs.Claims.{said, Held}
 use Rattle.ledger.specs.declared.ContextColumns.{ContextColumns}
 use Rattle.normaliser.specs.declared.Written.{Written}
@@ -25,7 +26,7 @@ textBy c table = contextText (normalOf (repAt table) (said c))
 
 abbrev pub writtenBy : Written → M.Written
 writtenBy (Wrote n) = M.wrote n
-writtenBy (Refused x) = M.unwritten (refusal (x .number) (x .line))
+writtenBy (Refused x) = M.unwritten (meant x)
 
 pub record Settles (c : ContextColumns) (lent : List ℕ) (r : Written) (after : List ℕ) : Type 0 where
   pub result : Normalised

@@ -54,6 +54,7 @@ fn settle(c: ContextColumns, lent: &mut [u8]) -> Written
         let x = Refusal {
             number: 9,
             line: n + 1,
+            offset: 0,
         };
         return Written::Refused(x);
     }
@@ -64,6 +65,7 @@ fn settle(c: ContextColumns, lent: &mut [u8]) -> Written
             let x = Refusal {
                 number: 10,
                 line: 0,
+                offset: 0,
             };
             Written::Refused(x)
         }

@@ -2,12 +2,14 @@
 use crate::frames::high;
 use crate::frames::low;
 use crate::frames::put_frame;
+use ledger::Refusal;
 ghost use mathlib.Core.Path.{_≡_};
 ghost use mathlib.Core.List.{map};
 ghost use Prim.Native.Nat.{_≤_, min};
 ghost use lib.ListN.{take};
 ghost use Rattle.meaning.specs.Writing.{frame};
-ghost use Rattle.meaning.specs.Replies.{breach, none, refused, refusal, printed};
+ghost use Rattle.meaning.specs.Replies.{breach, none, refused, printed};
+ghost use Rattle.ledger.specs.Phases.{meant};
 ghost use Rattle.normaliser.specs.Pieces.{low8};
 ghost use Rattle.normaliser.specs.Prints.{Prints};
 
@@ -56,9 +58,21 @@ pub fn none_line() -> Line
     line_of([9, 0, 0, 0, 0, 0, 0, 0], 1)
 }
 
-pub fn refusal_line(number: u8, place: u16) -> Line
-    ensures { λ r. ⌜ Prints (printed (refused (refusal number place))) (r .bytes) (r .len) ⌝ }
+// A refusal: its number, and two bytes each for the place and the offset.
+pub fn refusal_line(x: Refusal) -> Line
+    ensures { λ r. ⌜ Prints (printed (refused (meant x))) (r .bytes) (r .len) ⌝ }
 {
-    let fields = [10, number, high(place), low(place), 0, 0, 0, 0];
-    line_of(fields, 4)
+    let place = x.line;
+    let offset = x.offset;
+    let fields = [
+        10,
+        x.number,
+        high(place),
+        low(place),
+        high(offset),
+        low(offset),
+        0,
+        0,
+    ];
+    line_of(fields, 6)
 }

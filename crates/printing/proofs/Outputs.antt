@@ -24,6 +24,7 @@ use Rattle.meaning.proofs.Agreement.{normal-one}
 use Rattle.meaning.proofs.Computed.{repOf}
 use Rattle.meaning.proofs.Kept.{read-kept}
 use Rattle.meaning.proofs.Bounds.{normal-bytes}
+use Rattle.ledger.specs.Phases.{meant}
 use Rattle.ledger.specs.declared.Refusal.{Refusal}
 use Rattle.normaliser.specs.Claims.{writtenBy}
 use Rattle.normaliser.specs.Prints.{Prints}
@@ -42,12 +43,12 @@ module _ (input space after : List ℕ) (line : Line) (few : length input ≤ 16
   output-wrote n e p =
       record { answer = wrote n; answers = within few (wrote n) after (subst (λ (z : Written). Writes narrow input space (writtenBy z) after) e writes); parts = (refl, p) }
 
-  pub output-refused : (x : Refusal) → w ≡ Refused x → Prints (printed (refused (refusal (x .number) (x .line)))) (line .bytes) (line .len)
+  pub output-refused : (x : Refusal) → w ≡ Refused x → Prints (printed (refused (meant x))) (line .bytes) (line .len)
       → PrintsNormal input space (record { text = 0; line = line }) after
   output-refused x e p =
       record {
-        answer = unwritten (refusal (x .number) (x .line));
-        answers = within few (unwritten (refusal (x .number) (x .line))) after (subst (λ (z : Written). Writes narrow input space (writtenBy z) after) e writes);
+        answer = unwritten (meant x);
+        answers = within few (unwritten (meant x)) after (subst (λ (z : Written). Writes narrow input space (writtenBy z) after) e writes);
         parts = (refl, p);
       }
 

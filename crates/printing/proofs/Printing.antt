@@ -18,6 +18,7 @@ use Rattle.meaning.specs.Replies.{Reply, breach, none, refused, refusal, printe
 use Rattle.meaning.proofs.Table.{length-terms}
 use Rattle.meaning.proofs.Kept.{read-kept}
 use Rattle.meaning.proofs.Answered.{replies-one}
+use Rattle.ledger.specs.Phases.{meant}
 use Rattle.ledger.specs.declared.Refusal.{Refusal}
 use Rattle.finder.specs.Claims.{toldBy, toldOf, Finds}
 use Rattle.finder.specs.declared.Outcome.{Outcome}
@@ -79,7 +80,7 @@ module _ (input : List ℕ) (r : Line) (short : length input ≤ 16384) (x : Ans
           with-reply (subst (λ (z : Reply). Prints (printed z) (r .bytes) (r .len)) (ap breach b ∙ sym q) p)
       go none q = absurd (let v : 8 ∷ n ∷ [] ≡ 9 ∷ [] = sym (ap toldBy e) ∙ finds .told ∙ ap toldOf q in let z : _≡_ {A = ℕ} 8 9 = cc in omega arith)
       go (refused f) q =
-          absurd (let v : 8 ∷ n ∷ [] ≡ 10 ∷ f .number ∷ f .place ∷ [] = sym (ap toldBy e) ∙ finds .told ∙ ap toldOf q in let z : _≡_ {A = ℕ} 8 10 = cc in omega arith)
+          absurd (let v : 8 ∷ n ∷ [] ≡ 10 ∷ f .number ∷ f .place ∷ f .offset ∷ [] = sym (ap toldBy e) ∙ finds .told ∙ ap toldOf q in let z : _≡_ {A = ℕ} 8 10 = cc in omega arith)
 
   pub prints-clear : x .outcome ≡ O.Clear → Prints (printed none) (r .bytes) (r .len) → PrintsFound input r
   prints-clear e p = go (finds .reply) refl
@@ -88,20 +89,22 @@ module _ (input : List ℕ) (r : Line) (short : length input ≤ 16384) (x : Ans
       go none q = with-reply (subst (λ (z : Reply). Prints (printed z) (r .bytes) (r .len)) (sym q) p)
       go (breach a) q = absurd (let v : 9 ∷ [] ≡ 8 ∷ length a ∷ [] = sym (ap toldBy e) ∙ finds .told ∙ ap toldOf q in let z : _≡_ {A = ℕ} 9 8 = cc in omega arith)
       go (refused f) q =
-          absurd (let v : 9 ∷ [] ≡ 10 ∷ f .number ∷ f .place ∷ [] = sym (ap toldBy e) ∙ finds .told ∙ ap toldOf q in let z : _≡_ {A = ℕ} 9 10 = cc in omega arith)
+          absurd (let v : 9 ∷ [] ≡ 10 ∷ f .number ∷ f .place ∷ f .offset ∷ [] = sym (ap toldBy e) ∙ finds .told ∙ ap toldOf q in let z : _≡_ {A = ℕ} 9 10 = cc in omega arith)
 
-  pub prints-refused : (f : Refusal) → x .outcome ≡ O.Refused f → Prints (printed (refused (refusal (f .number) (f .line)))) (r .bytes) (r .len) → PrintsFound input r
+  pub prints-refused : (f : Refusal) → x .outcome ≡ O.Refused f → Prints (printed (refused (meant f))) (r .bytes) (r .len) → PrintsFound input r
   prints-refused f e p = go (finds .reply) refl
     where
       go : (y : Reply) → finds .reply ≡ y → PrintsFound input r
       go (refused g) q =
-          let v : 10 ∷ f .number ∷ f .line ∷ [] ≡ 10 ∷ g .number ∷ g .place ∷ [] = sym (ap toldBy e) ∙ finds .told ∙ ap toldOf q in
+          let v : 10 ∷ f .number ∷ f .line ∷ f .offset ∷ [] ≡ 10 ∷ g .number ∷ g .place ∷ g .offset ∷ [] = sym (ap toldBy e) ∙ finds .told ∙ ap toldOf q in
           let n : f .number ≡ g .number = cc in
           let l : f .line ≡ g .place = cc in
-          with-reply (subst (λ (z : Reply). Prints (printed z) (r .bytes) (r .len)) (ap₂ (λ (i j : ℕ). refused (refusal i j)) n l ∙ sym q) p)
+          let o : f .offset ≡ g .offset = cc in
+          let m : meant f ≡ g = rw (n, l, o) in
+          with-reply (subst (λ (z : Reply). Prints (printed z) (r .bytes) (r .len)) (ap refused m ∙ sym q) p)
       go (breach a) q =
-          absurd (let v : 10 ∷ f .number ∷ f .line ∷ [] ≡ 8 ∷ length a ∷ [] = sym (ap toldBy e) ∙ finds .told ∙ ap toldOf q in let z : _≡_ {A = ℕ} 10 8 = cc in omega arith)
-      go none q = absurd (let v : 10 ∷ f .number ∷ f .line ∷ [] ≡ 9 ∷ [] = sym (ap toldBy e) ∙ finds .told ∙ ap toldOf q in let z : _≡_ {A = ℕ} 10 9 = cc in omega arith)
+          absurd (let v : 10 ∷ f .number ∷ f .line ∷ f .offset ∷ [] ≡ 8 ∷ length a ∷ [] = sym (ap toldBy e) ∙ finds .told ∙ ap toldOf q in let z : _≡_ {A = ℕ} 10 8 = cc in omega arith)
+      go none q = absurd (let v : 10 ∷ f .number ∷ f .line ∷ f .offset ∷ [] ≡ 9 ∷ [] = sym (ap toldBy e) ∙ finds .told ∙ ap toldOf q in let z : _≡_ {A = ℕ} 10 9 = cc in omega arith)
 
 -- ---- one line
 

@@ -1,5 +1,6 @@
 // What the programs print for an input.
 use finder::Outcome;
+use ledger::Refusal;
 use normaliser::Written;
 use normaliser::printed::Line;
 use normaliser::printed::breach_line;
@@ -7,6 +8,7 @@ use normaliser::printed::none_line;
 use normaliser::printed::refusal_line;
 ghost use mathlib.Core.Path.{_≡_};
 ghost use mathlib.Core.List.{[]};
+ghost use Rattle.meaning.specs.Replies.{refused, refusal, printed};
 ghost use Rattle.normaliser.specs.Prints.{Prints};
 ghost use Rattle.printing.specs.Claims.{PrintsFound, PrintsNormal};
 
@@ -25,12 +27,24 @@ fn wide(x: u8) -> usize
     x as usize
 }
 
+// Refusal 11.
+fn over_line() -> Line
+    ensures { λ r. ⌜ Prints (printed (refused (refusal 11 0))) (r .bytes) (r .len) ⌝ }
+{
+    let x = Refusal {
+        number: 11,
+        line: 0,
+        offset: 0,
+    };
+    refusal_line(x)
+}
+
 // What the finder program prints.
 pub fn find_prints(input: &[u8]) -> Line
     ensures prints { λ r. ⌜ PrintsFound (now (input .entry)) r ⌝ }
 {
     if MOST_INPUT < input.len() {
-        return refusal_line(11, 0);
+        return over_line();
     }
     let r = finder::find(input);
     let outcome = r.outcome;
@@ -38,7 +52,7 @@ pub fn find_prints(input: &[u8]) -> Line
     match outcome {
         Outcome::Breach(n) => breach_line(wide(n), places),
         Outcome::Clear => none_line(),
-        Outcome::Refused(x) => refusal_line(x.number, x.line),
+        Outcome::Refused(x) => refusal_line(x),
     }
 }
 
@@ -56,7 +70,7 @@ pub fn normalise_prints(input: &[u8], space: &mut [u8]) -> Parts
     ensures prints { λ r. ⌜ PrintsNormal (now (input .entry)) (now (space .entry)) r (now (space .exit)) ⌝ }
 {
     if MOST_INPUT < input.len() {
-        let line = refusal_line(11, 0);
+        let line = over_line();
         return Parts { text: 0, line };
     }
     let written = normaliser::normalise(input, space);
@@ -66,7 +80,7 @@ pub fn normalise_prints(input: &[u8], space: &mut [u8]) -> Parts
             Parts { text: n, line }
         }
         Written::Refused(x) => {
-            let line = refusal_line(x.number, x.line);
+            let line = refusal_line(x);
             Parts { text: 0, line }
         }
     }

@@ -37,10 +37,9 @@ module _ (text : List ℕ) (c : ContextColumns) (next : Next) (k : ClauseColumns
   reads-clause x r e f = refused-reads text x r (subst (λ (y : Next). ClausePhase text 5 c y k) e p) f
 
   module _ (q : Place) (e : next ≡ N.At q) where
-    pub reads-last : (n : ℕ) (r : Reading) → LastFault text (q .at) n
-        → r ≡ record { answer = Refused (record { number = n; line = q .line }); context = noContext; clause = noClause } → Reads text r
-    reads-last n r l f =
-        refused-reads text (record { number = n; line = q .line }) r (l .fault (q .line) c k (clause-stands text 5 c next k p q e)) f
+    pub reads-last : (x : Refusal) (r : Reading) → LastFault text (q .at) (q .line) x
+        → r ≡ record { answer = Refused x; context = noContext; clause = noClause } → Reads text r
+    reads-last x r l f = refused-reads text x r (l .fault c k (clause-stands text 5 c next k p q e)) f
 
     pub reads-taken : length text ≤ q .at → Reads text (record { answer = Taken; context = c; clause = k })
     unfolding linesOf linesFrom readLines
@@ -57,7 +56,8 @@ told-one (Refused x) Taken e = absurd (let z : _≡_ {A = ℕ} 0 1 = cc in omega
 told-one (Refused x) (Refused y) e =
     let n : x .number ≡ y .number = cc in
     let l : x .line ≡ y .line = cc in
-    ap Refused (rw (n, l))
+    let o : x .offset ≡ y .offset = cc in
+    ap Refused (rw (n, l, o))
 
 pub reads-unique : (text : List ℕ) (r s : Reading) → Reads text r → Reads text s → r ≡ s
 reads-unique text r s p q =

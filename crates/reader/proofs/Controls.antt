@@ -10,7 +10,7 @@ use mathlib.Core.Path.{_≡_, refl, sym, _∙_}
 use Prim.Native.Nat.{ℕ}
 use native.Mathlib.Omega.{arith}
 use Rattle.meaning.specs.Text as M
-use Rattle.meaning.specs.Text.{read, readLines, narrow, linesOf, linesFrom, digit, fields, isListed, listedAs, sizeOf, entryOf, rankOf, put, putContext, putClause, legible, nonDigit, firstFailing, isNowhere, known, sized, ranked, refers, noRow, namedBy, tableOf, agrees, rowsAgree, patternsAgree, testsOf, firstFault}
+use Rattle.meaning.specs.Text.{read, readLines, narrow, linesOf, linesFrom, digit, fields, isListed, listedAs, sizeOf, entryOf, rankOf, put, putContext, putClause, legible, nonDigit, firstFailing, isNowhere, known, sized, ranked, refers, noRow, namedBy, tableOf, agrees, rowsAgree, patternsAgree, testsOf, firstFault, offsetOf, spotOr, badByte}
 use Rattle.reader.specs.Reads.{toldBy, toldOf, Reads}
 use Rattle.reader.specs.declared.Reading.{Reading}
 
@@ -22,17 +22,17 @@ pub some-taken : toldOf (read narrow []) ≡ []
 unfolding read readLines linesOf linesFrom
 some-taken = refl
 
-pub some-rank : toldOf (read narrow rank-and-count) ≡ 4 ∷ 2 ∷ []
-unfolding rank-and-count read readLines linesOf linesFrom digit fields isListed listedAs sizeOf entryOf rankOf put putContext putClause legible nonDigit firstFailing isNowhere known sized ranked M.room refers noRow namedBy tableOf agrees rowsAgree patternsAgree testsOf firstFault
+pub some-rank : toldOf (read narrow rank-and-count) ≡ 4 ∷ 2 ∷ 0 ∷ []
+unfolding rank-and-count read readLines linesOf linesFrom digit fields isListed listedAs sizeOf entryOf rankOf put putContext putClause legible nonDigit firstFailing isNowhere known sized ranked M.room refers noRow namedBy tableOf agrees rowsAgree patternsAgree testsOf firstFault offsetOf spotOr badByte
 some-rank = refl
 
-pub no-count-first : (r : Reading) → Reads rank-and-count r → toldBy (r .answer) ≡ 5 ∷ 2 ∷ [] → ⊥
-no-count-first r h e = let z : _≡_ {A = List ℕ} (4 ∷ 2 ∷ []) (5 ∷ 2 ∷ []) = sym some-rank ∙ sym (h .told) ∙ e in let y : _≡_ {A = ℕ} 4 5 = cc in omega arith
+pub no-count-first : (r : Reading) → Reads rank-and-count r → toldBy (r .answer) ≡ 5 ∷ 2 ∷ 0 ∷ [] → ⊥
+no-count-first r h e = let z : _≡_ {A = List ℕ} (4 ∷ 2 ∷ 0 ∷ []) (5 ∷ 2 ∷ 0 ∷ []) = sym some-rank ∙ sym (h .told) ∙ e in let y : _≡_ {A = ℕ} 4 5 = cc in omega arith
 
 -- a line feed alone
-some-line : toldOf (read narrow (10 ∷ [])) ≡ 1 ∷ 1 ∷ []
-unfolding read readLines linesOf linesFrom digit fields isListed listedAs sizeOf entryOf rankOf put putContext putClause legible nonDigit firstFailing isNowhere known sized ranked M.room refers noRow namedBy tableOf agrees rowsAgree patternsAgree testsOf firstFault
+some-line : toldOf (read narrow (10 ∷ [])) ≡ 1 ∷ 1 ∷ 0 ∷ []
+unfolding read readLines linesOf linesFrom digit fields isListed listedAs sizeOf entryOf rankOf put putContext putClause legible nonDigit firstFailing isNowhere known sized ranked M.room refers noRow namedBy tableOf agrees rowsAgree patternsAgree testsOf firstFault offsetOf spotOr badByte
 some-line = refl
 
-pub no-line-zero : (r : Reading) → Reads (10 ∷ []) r → toldBy (r .answer) ≡ 1 ∷ 0 ∷ [] → ⊥
-no-line-zero r h e = let z : _≡_ {A = List ℕ} (1 ∷ 1 ∷ []) (1 ∷ 0 ∷ []) = sym some-line ∙ sym (h .told) ∙ e in let y : _≡_ {A = ℕ} 1 0 = cc in omega arith
+pub no-line-zero : (r : Reading) → Reads (10 ∷ []) r → toldBy (r .answer) ≡ 1 ∷ 0 ∷ 0 ∷ [] → ⊥
+no-line-zero r h e = let z : _≡_ {A = List ℕ} (1 ∷ 1 ∷ 0 ∷ []) (1 ∷ 0 ∷ 0 ∷ []) = sym some-line ∙ sym (h .told) ∙ e in let y : _≡_ {A = ℕ} 1 0 = cc in omega arith

@@ -15,6 +15,7 @@ use Rattle.meaning.specs.Text.{Kind, Read, fieldAt, isListed, listedAs, kinds, 
 use Rattle.frames.specs.Choice.{choose}
 use Rattle.frames.specs.Lines.{Legible, Illegible, valueAt, kindAt, kindOf}
 use Rattle.ledger.specs.Phases.{termSized, sizedOf, Rising, Stands, LastFault}
+use Rattle.ledger.specs.declared.Refusal.{Refusal}
 use Rattle.ledger.specs.declared.ContextColumns.{ContextColumns}
 use Rattle.ledger.specs.declared.ClauseColumns.{ClauseColumns}
 use Rattle.frames.specs.declared.lines.Kind as K
@@ -24,7 +25,7 @@ use Rattle.ledger.proofs.Kinded.{known-is, kind-is}
 use Rattle.ledger.proofs.Pairing.{sized-by}
 use Rattle.ledger.proofs.Rowed.{line-legible, line-illegible}
 use Rattle.ledger.proofs.Standing.{stop, stop-illegible}
-use Rattle.ledger.proofs.Turn.{kindIn, entryIn, faultIn, legible-line}
+use Rattle.ledger.proofs.Turn.{kindIn, entryIn, faultIn, stopped-first, legible-line}
 
 module _ (text : List ℕ) (at end : ℕ) where
   pub long-short : end - at < 8 → false ≡ termSized text at end
@@ -109,8 +110,12 @@ module _ (text : List ℕ) (at end : ℕ) (g : Legible text at end) where
     rank-low (suc (suc (suc (suc (suc (suc (suc zero))))))) e r = absurd (r .four (omega arith) (omega arith) (omega arith))
     rank-low (suc (suc (suc (suc (suc (suc (suc (suc n)))))))) e r = absurd (too-high (suc (suc (suc (suc (suc (suc (suc (suc n)))))))) (omega arith) e)
 
-pub last-illegible : (text : List ℕ) (at : ℕ) → Illegible text at → LastFault text at 1
-last-illegible text at b = record { fault = λ line c k h. stop-illegible text at line 5 c k h b }
+pub last-illegible : (text : List ℕ) (at line o : ℕ) → Illegible text at o → LastFault text at line (record { number = 1; line = line; offset = o })
+last-illegible text at line o b = record { fault = λ c k h. stop-illegible text at line 5 c k h o b }
+
+-- a refusal that names the line's first byte
+abbrev atFirst : ℕ → ℕ → Refusal
+atFirst n line = record { number = n; line = line; offset = 0 }
 
 unknown : (q : ℕ) → kindOf q ≡ Unknown → isListed q kinds ≡ false
 unfolding kindOf
@@ -129,10 +134,15 @@ found-kind q kind e = go (isListed q kinds) refl
     go false f = absurd (let z : choose (isListed q kinds) (Known q) Unknown ≡ Unknown = rw f in let y : _≡_ {A = ℕ} 0 1 = cc in omega arith)
 
 module _ (text : List ℕ) (at end : ℕ) (g : Legible text at end) (q : ℕ) (q₀ : q ≡ kindAt text at) (u : K.Kind) (u₀ : u ≡ kindOf q) where
-  pub last-unknown : u ≡ Unknown → LastFault text at 2
-  last-unknown e =
+  last-first : (line x : ℕ) (r : Refusal) → r ≡ atFirst x line → eqb x 1 ≡ false → eqb x 6 ≡ false → 0 < x
+      → ((c : ContextColumns) (k : ClauseColumns) (h : Stands text at line 5 c k) → faultIn text at end (h .said) ≡ x) → LastFault text at line r
+  last-first line x r i e f b w =
+      rw i record { fault = λ c k h. stop text at line 5 c k h end g x 0 (stopped-first text at end (h .said) _ x (w c k h) e f b) }
+
+  pub last-unknown : (line : ℕ) (r : Refusal) → r ≡ atFirst 2 line → u ≡ Unknown → LastFault text at line r
+  last-unknown line r i e =
       let f = known-is text at end g q (sym q₀) ∙ unknown q (sym u₀ ∙ e) in
-      record { fault = λ line c k h. stop text at line 5 c k h end g 2 (fault-2 text at end g (h .said) f) (omega arith) }
+      last-first line 2 r i refl refl (omega arith) (λ c k h. fault-2 text at end g (h .said) f)
 
   module _ (kind : ℕ) (e : u ≡ Known kind) (b : Bool) (b₀ : b ≡ sizedOf text at end kind) where
     listed-is : isListed q kinds ≡ true
@@ -148,14 +158,14 @@ module _ (text : List ℕ) (at end : ℕ) (g : Legible text at end) (q : ℕ) (q
         ∙ ap (sizedOf text at end) (sym (found-kind q kind (sym u₀ ∙ e) .1))
         ∙ sym b₀
 
-    pub last-size : b ≡ false → LastFault text at 3
-    last-size f = record { fault = λ line c k h. stop text at line 5 c k h end g 3 (fault-3 text at end g (h .said) known-q (sized-q ∙ f)) (omega arith) }
+    pub last-size : (line : ℕ) (r : Refusal) → r ≡ atFirst 3 line → b ≡ false → LastFault text at line r
+    last-size line r i f = last-first line 3 r i refl refl (omega arith) (λ c k h. fault-3 text at end g (h .said) known-q (sized-q ∙ f))
 
-    pub last-rank : b ≡ true → LastFault text at 4
-    last-rank f = record { fault = λ line c k h. stop text at line 5 c k h end g 4 (fault-4 text at end g (h .said) known-q (sized-q ∙ f) (falls h)) (omega arith) }
+    pub last-rank : (line : ℕ) (r : Refusal) → r ≡ atFirst 4 line → b ≡ true → LastFault text at line r
+    last-rank line r i f = last-first line 4 r i refl refl (omega arith) (λ c k h. fault-4 text at end g (h .said) known-q (sized-q ∙ f) (falls c k h))
       where
-        falls : {line : ℕ} {c : ContextColumns} {k : ClauseColumns} (h : Stands text at line 5 c k) → ranked (entryIn text at end) (h .said) ≡ false
-        falls h =
+        falls : (c : ContextColumns) (k : ClauseColumns) (h : Stands text at line 5 c k) → ranked (entryIn text at end) (h .said) ≡ false
+        falls c k h =
             ap (λ (k : Kind). ranked (entryOf k (fieldsOf text at end)) (h .said)) (kind-is text at end g q (sym q₀))
             ∙ rank-low text at end g (h .said) q listed-is (rw q₀ (h .rising))
 

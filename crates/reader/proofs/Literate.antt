@@ -41,7 +41,7 @@ use Rattle.reader.proofs.Patterned.{clause-at, clause-refused}
 use Rattle.ledger.proofs.Rowed.{line-legible, line-illegible, legible-falls}
 use Rattle.ledger.proofs.Standing.{rise, stop, stop-illegible, advance, kind-end, within-literal}
 use Rattle.ledger.proofs.Store.{withLiteral, literal-columns}
-use Rattle.ledger.proofs.Turn.{entryIn, kindIn, faultIn}
+use Rattle.ledger.proofs.Turn.{entryIn, kindIn, faultIn, offsetFor}
 
 pub record Lettered (text : List ℕ) (at₀ line₀ : ℕ) (k₀ : ClauseColumns) (at line : ℕ) (k : ClauseColumns) : Type 0 where
   pub inside : at ≤ length text
@@ -115,19 +115,19 @@ module _ (text : List ℕ) (at line end : ℕ) (c : ContextColumns) (k : ClauseC
   abbrev p₂ : ℕ
   p₂ = fieldAt (fieldsOf text at end) 2
 
-  verdict : PairVerdict p₁ p₂ room t (faultIn text at end (h .said))
+  verdict : PairVerdict p₁ p₂ room t (faultIn text at end (h .said)) (offsetFor text at end (h .said))
   verdict =
       let e′ : t ≡ pairOf text at end room (length (patternsOf (h .said))) = e ∙ rw (patterns-are, literals-are) in
       rw e′ (pair-verdict text at end g (h .said) _ _ _ room (said-line .knows) (said-line .kinded) (said-line .is))
 
-  literal-faulty : (x : ℕ) → t ≡ Refused x → read narrow text ≡ faulty (record { number = x; place = line })
-  literal-faulty x f =
-      let v = subst (λ (y : Paired). PairVerdict p₁ p₂ room y (faultIn text at end (h .said))) f verdict in
-      stop text at line 4 c k h end g x (v .0) (v .1)
+  literal-faulty : (x o : ℕ) → t ≡ Refused x o → read narrow text ≡ faulty (record { number = x; place = line; offset = o })
+  literal-faulty x o f =
+      let v = subst (λ (y : Paired). PairVerdict p₁ p₂ room y (faultIn text at end (h .said)) (offsetFor text at end (h .said))) f verdict in
+      stop text at line 4 c k h end g x o v
 
   module _ (p : Pair) (f : t ≡ Is p) where
-    accepted : PairVerdict p₁ p₂ room (Is p) (faultIn text at end (h .said))
-    accepted = subst (λ (y : Paired). PairVerdict p₁ p₂ room y (faultIn text at end (h .said))) f verdict
+    accepted : PairVerdict p₁ p₂ room (Is p) (faultIn text at end (h .said)) (offsetFor text at end (h .said))
+    accepted = subst (λ (y : Paired). PairVerdict p₁ p₂ room y (faultIn text at end (h .said)) (offsetFor text at end (h .said))) f verdict
 
     abbrev x₀ : Literal
     x₀ = said-line .make (p .left) (p .right)
@@ -152,13 +152,13 @@ unfolding pairOf
 pair-room text at end true n p e = refl
 pair-room text at end false n p e = absurd (go (eqb (end - at) 6) e)
   where
-    go : (b : Bool) → choose b (Refused 5) (Refused 3) ≡ Is p → ⊥
+    go : (b : Bool) → choose b (Refused 5 0) (Refused 3 0) ≡ Is p → ⊥
     go true f = let z : _≡_ {A = ℕ} 0 1 = cc in omega arith
     go false f = let z : _≡_ {A = ℕ} 0 1 = cc in omega arith
 
 module _ (text : List ℕ) (at₀ line₀ : ℕ) (k₀ : ClauseColumns) (at line : ℕ) (k : ClauseColumns) (w : Lettered text at₀ line₀ k₀ at line k) (next : Next) where
-  pub literals-illegible : Illegible text at → next ≡ N.Refused (record { number = 1; line = line }) → LiteralsPhase text at₀ line₀ k₀ next k
-  literals-illegible b e c s = clause-refused text 5 next c k 1 line e (stop-illegible text at line 4 c k (w .stands c s) b)
+  pub literals-illegible : (o : ℕ) → Illegible text at o → next ≡ N.Refused (record { number = 1; line = line; offset = o }) → LiteralsPhase text at₀ line₀ k₀ next k
+  literals-illegible o b e c s = clause-refused text 5 next c k 1 line o e (stop-illegible text at line 4 c k (w .stands c s) o b)
 
   leave : (kindAt text at < 6) ⊎ (7 < kindAt text at) → next ≡ N.At (record { at = at; line = line }) → LiteralsPhase text at₀ line₀ k₀ next k
   leave n e c s =
@@ -185,9 +185,10 @@ module _ (text : List ℕ) (at₀ line₀ : ℕ) (k₀ : ClauseColumns) (at line
 module _ (text : List ℕ) (at₀ line₀ : ℕ) (k₀ : ClauseColumns) (at line end : ℕ) (k : ClauseColumns) (w : Lettered text at₀ line₀ k₀ at line k)
     (g : Legible text at end) (q : ℕ) (q₀ : q ≡ kindAt text at) (low : 6 ≤ q) (high : q ≤ 7) (t : Paired)
     (e : t ≡ pairOf text at end (ltb (k .literals) 16) (k .patterns)) where
-  pub literal-stop : (x : ℕ) (next : Next) → t ≡ Refused x → next ≡ N.Refused (record { number = x; line = line }) → LiteralsPhase text at₀ line₀ k₀ next k
-  literal-stop x next f i c s =
-      clause-refused text 5 next c k x line i (literal-faulty text at line end c k (w .stands c s) g q q₀ low high t e x f)
+  pub literal-stop : (x o : ℕ) (next : Next) → t ≡ Refused x o → next ≡ N.Refused (record { number = x; line = line; offset = o })
+      → LiteralsPhase text at₀ line₀ k₀ next k
+  literal-stop x o next f i c s =
+      clause-refused text 5 next c k x line o i (literal-faulty text at line end c k (w .stands c s) g q q₀ low high t e x o f)
 
   module _ (p : Pair) (f : t ≡ Is p) where
     pub literal-room : k .literals < 16

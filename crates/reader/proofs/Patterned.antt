@@ -39,7 +39,7 @@ use Rattle.ledger.proofs.Rowed.{line-legible, line-illegible, line-fits, rows-m
 use Rattle.ledger.proofs.Standing.{rise, stop, stop-illegible, advance, kind-end, within-pattern}
 use Rattle.ledger.proofs.Store.{withPattern, pattern-columns}
 use Rattle.ledger.proofs.Terming.{TermIs, TermVerdict, gated, term-verdict}
-use Rattle.ledger.proofs.Turn.{entryIn, faultIn, legible-line}
+use Rattle.ledger.proofs.Turn.{entryIn, faultIn, offsetFor, stopped-first, legible-line}
 
 -- ---- a variable
 module _ (text : List ℕ) (at end : ℕ) (g : Legible text at end) (s : Read) (q : kindAt text at ≡ 4) (top : s .rank ≤ 3) where
@@ -54,17 +54,17 @@ module _ (text : List ℕ) (at end : ℕ) (g : Legible text at end) (s : Read) (
   variable-fault =
       rw (kind-is text at end g 4 q, legible-line text at end g, known-is text at end g 4 q, sized-by text at end 2 g, le-leb (s .rank) 3 top)
 
-  variable-verdict : TermVerdict v [] room (variableOf text at end room) (faultIn text at end s)
+  variable-verdict : TermVerdict v [] room (variableOf text at end room) (faultIn text at end s) (offsetFor text at end s)
   unfolding variableOf firstFault pad
   variable-verdict = go (eqb (end - at) 4) refl room refl (ltb 3 v) refl
     where
       go : (a : Bool) → eqb (end - at) 4 ≡ a → (b : Bool) → room ≡ b → (d : Bool) → ltb 3 v ≡ d
-          → TermVerdict v [] room (variableOf text at end room) (faultIn text at end s)
-      go false e b f d i = rw (variable-fault, e) (refl, omega arith)
-      go true e false f d i = rw (variable-fault, e, f) (refl, omega arith)
+          → TermVerdict v [] room (variableOf text at end room) (faultIn text at end s) (offsetFor text at end s)
+      go false e b f d i = rw (variable-fault, e) (stopped-first text at end s 3 3 refl refl refl (omega arith))
+      go true e false f d i = rw (variable-fault, e, f) (stopped-first text at end s 5 5 refl refl refl (omega arith))
       go true e true f true i =
           let w = field-at text at end g 1 (omega (arith, eqb-true (end - at) 4 e)) in
-          rw (variable-fault, e, f, ← w, i, lt-leb v 3 (ltb-true 3 v i)) (refl, omega arith)
+          rw (variable-fault, e, f, ← w, i, lt-leb v 3 (ltb-true 3 v i)) (stopped-first text at end s 5 5 refl refl refl (omega arith))
       go true e true f false i =
           let w = field-at text at end g 1 (omega (arith, eqb-true (end - at) 4 e)) in
           rw (variable-fault, e, f, ← w, i, le-leb v 3 (ltb-false 3 v i))
@@ -73,7 +73,7 @@ module _ (text : List ℕ) (at end : ℕ) (g : Legible text at end) (s : Read) (
 -- ---- a pattern row of either kind
 record Patterning (text : List ℕ) (at end : ℕ) (s : Read) (q : ℕ) (t : Termed) : Type 0 where
   made : Pattern
-  verdict : TermVerdict (headOf made) (argsIn made) (ltb (length (patternsOf s)) 64) t (faultIn text at end s)
+  verdict : TermVerdict (headOf made) (argsIn made) (ltb (length (patternsOf s)) 64) t (faultIn text at end s) (offsetFor text at end s)
   entry : entryIn text at end ≡ pattern made
   number : q ≡ patternKind made
 
@@ -127,16 +127,16 @@ module _ (text : List ℕ) (at line end : ℕ) (c : ContextColumns) (k : ClauseC
   abbrev roomy : Bool
   roomy = ltb (length (patternsOf (h .said))) 64
 
-  pub pattern-stop : (x : ℕ) → t ≡ Refused x → read narrow text ≡ faulty (record { number = x; place = line })
-  pattern-stop x f =
+  pub pattern-stop : (x o : ℕ) → t ≡ Refused x o → read narrow text ≡ faulty (record { number = x; place = line; offset = o })
+  pattern-stop x o f =
       let p = patterning in
-      let w = subst (λ (y : Termed). TermVerdict (headOf (p .made)) (argsIn (p .made)) roomy y (faultIn text at end (h .said))) f (p .verdict) in
-      stop text at line 3 c k h end g x (w .0) (w .1)
+      let w = subst (λ (y : Termed). TermVerdict (headOf (p .made)) (argsIn (p .made)) roomy y (faultIn text at end (h .said)) (offsetFor text at end (h .said))) f (p .verdict) in
+      stop text at line 3 c k h end g x o w
 
   module _ (r : Term) (f : t ≡ Is r) where
     accepted : (faultIn text at end (h .said) ≡ 0) × TermIs (headOf (patterning .made)) (argsIn (patterning .made)) roomy r
     accepted =
-        subst (λ (y : Termed). TermVerdict (headOf (patterning .made)) (argsIn (patterning .made)) roomy y (faultIn text at end (h .said))) f (patterning .verdict)
+        subst (λ (y : Termed). TermVerdict (headOf (patterning .made)) (argsIn (patterning .made)) roomy y (faultIn text at end (h .said)) (offsetFor text at end (h .said))) f (patterning .verdict)
 
     some-room : length (patternsOf (h .said)) < 64
     some-room = ltb-true (length (patternsOf (h .said))) 64 (accepted .1 .roomy)
@@ -193,9 +193,9 @@ module _ (text : List ℕ) (m : ℕ) (next : Next) (c : ContextColumns) (k : Cla
   pub clause-at : (at line : ℕ) → next ≡ N.At (record { at = at; line = line }) → Stands text at line m c k → ClausePhase text m c next k
   clause-at at line e h = rw e h
 
-  pub clause-refused : (x line : ℕ) → next ≡ N.Refused (record { number = x; line = line }) → read narrow text ≡ faulty (record { number = x; place = line })
-      → ClausePhase text m c next k
-  clause-refused x line e h = rw e h
+  pub clause-refused : (x line o : ℕ) → next ≡ N.Refused (record { number = x; line = line; offset = o })
+      → read narrow text ≡ faulty (record { number = x; place = line; offset = o }) → ClausePhase text m c next k
+  clause-refused x line o e h = rw e h
 
 pub stand-clause : (text : List ℕ) (at line m : ℕ) (c : ContextColumns) (k : ClauseColumns) → k ≡ noClause → Stands text at line m c noClause → Stands text at line m c k
 stand-clause text at line m c k e h = rw e h

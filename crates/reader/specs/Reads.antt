@@ -1,6 +1,6 @@
 -- What reading a text has to answer, every place of the columns included.
---     toldBy     document 01's number and place for each answer: none where the text is taken
---     toldOf, contextOf, clauseIn   the number and the place, the context's and the clause's columns that a text gets
+--     toldBy     the number, the place and the byte of each answer: none where the text is taken
+--     toldOf, contextOf, clauseIn   the number, the place and the byte, the context's and the clause's columns that a text gets
 --     Reads      the reader's promise
 -- Assumes nothing.
 use mathlib.Core.List.{List, [], _∷_}
@@ -17,10 +17,10 @@ use Rattle.reader.specs.declared.Reading.{Reading}
 
 abbrev pub toldBy : Answer → List ℕ
 toldBy Taken = []
-toldBy (Refused x) = x .number ∷ x .line ∷ []
+toldBy (Refused x) = x .number ∷ x .line ∷ x .offset ∷ []
 
 abbrev pub toldOf : M.Reading → List ℕ
-toldOf (faulty f) = f .number ∷ f .place ∷ []
+toldOf (faulty f) = f .number ∷ f .place ∷ f .offset ∷ []
 toldOf (taken s) = []
 
 abbrev pub contextOf : M.Reading → ContextColumns

@@ -88,9 +88,12 @@ fn read_patterns(text: &[u8], from: Place, c: ContextColumns) -> ClauseRead
         if 5 < q {
             break;
         }
-        let Line::Ends(end) = line_at(text, at) else {
-            let next = refuse(1, line);
-            return ClauseRead { next, columns: k };
+        let end = match line_at(text, at) {
+            Line::Ends(end) => end,
+            Line::Bad(o) => {
+                let next = refuse(1, line, o);
+                return ClauseRead { next, columns: k };
+            }
         };
         let kind = q as u8;
         let n = k.patterns;
@@ -109,8 +112,8 @@ fn read_patterns(text: &[u8], from: Place, c: ContextColumns) -> ClauseRead
             n,
         ) {
             Termed::Is(t) => t,
-            Termed::Refused(x) => {
-                let next = refuse(x, line);
+            Termed::Refused(x, o) => {
+                let next = refuse(x, line, o);
                 return ClauseRead { next, columns: k };
             }
         };
@@ -146,15 +149,18 @@ fn read_literals(text: &[u8], from: Place, columns: ClauseColumns) -> ClauseRead
         if 7 < q {
             break;
         }
-        let Line::Ends(end) = line_at(text, at) else {
-            let next = refuse(1, line);
-            return ClauseRead { next, columns: k };
+        let end = match line_at(text, at) {
+            Line::Ends(end) => end,
+            Line::Bad(o) => {
+                let next = refuse(1, line, o);
+                return ClauseRead { next, columns: k };
+            }
         };
         let m = k.literals;
         let p = match pair_line(text, at, end, m < MOST_LITERALS, k.patterns) {
             Paired::Is(p) => p,
-            Paired::Refused(x) => {
-                let next = refuse(x, line);
+            Paired::Refused(x, o) => {
+                let next = refuse(x, line, o);
                 return ClauseRead { next, columns: k };
             }
         };

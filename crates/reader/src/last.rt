@@ -5,6 +5,7 @@ use frames::lines::field;
 use frames::lines::kind_at;
 use frames::lines::kind_of;
 use frames::lines::line_at;
+use ledger::Refusal;
 ghost use mathlib.Core.Path.{_≡_};
 ghost use Prim.Native.Nat.{_<_};
 ghost use lib.ListN.{length};
@@ -40,15 +41,37 @@ fn sized(text: &[u8], at: usize, end: usize, kind: u8) -> bool
     end - at == 6
 }
 
-pub fn last_fault(text: &[u8], at: usize) -> u8
-    requires { ⌜ at < length (now text) ⌝ }
-    ensures last { λ r. ⌜ LastFault (now (text .entry)) at r ⌝ }
+// A refusal that names the first byte of a line.
+fn first(number: u8, line: u16) -> Refusal
+    ensures { λ r. ⌜ r ≡ record { number = number; line = line; offset = 0 } ⌝ }
 {
-    let Line::Ends(end) = line_at(text, at) else {
-        return 1;
+    Refusal {
+        number,
+        line,
+        offset: 0,
+    }
+}
+
+pub fn last_fault(text: &[u8], at: usize, line: u16) -> Refusal
+    requires { ⌜ at < length (now text) ⌝ }
+    ensures last { λ r. ⌜ LastFault (now (text .entry)) at line r ⌝ }
+{
+    let end = match line_at(text, at) {
+        Line::Ends(end) => end,
+        Line::Bad(offset) => {
+            return Refusal {
+                number: 1,
+                line,
+                offset,
+            };
+        }
     };
     let Kind::Known(kind) = kind_of(kind_at(text, at)) else {
-        return 2;
+        return first(2, line);
     };
-    if sized(text, at, end, kind) { 4 } else { 3 }
+    if sized(text, at, end, kind) {
+        first(4, line)
+    } else {
+        first(3, line)
+    }
 }

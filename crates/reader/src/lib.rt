@@ -1,4 +1,4 @@
-// The reader: any bytes to a context and a clause in columns, or the first fault by number and line.
+// The reader: any bytes to a context and a clause in columns, or the first fault by number, line and byte.
 mod clause;
 mod last;
 
@@ -59,12 +59,7 @@ pub fn read(text: &[u8]) -> Reading
     };
     let at = q.at;
     if at < text.len() {
-        let number = last_fault(text, at);
-        let x = Refusal {
-            number,
-            line: q.line,
-        };
-        return refused(x);
+        return refused(last_fault(text, at, q.line));
     }
     let answer = Answer::Taken;
     let clause = second.columns;

@@ -15,6 +15,7 @@ fn tell(text: &[u8]) {
         Answer::Refused(x) => {
             say(b": refused ", x.number as u64);
             say(b", line ", x.line as u64);
+            say(b", byte ", x.offset as u64);
         }
         Answer::Taken => {
             say(b": rows ", r.context.rows as u64);

@@ -3,6 +3,7 @@
 // that normal text. The space that is lent is as long as the second file, so that a normal text
 // without its last byte (`.short`) shows refusal 10.
 use finder::Outcome;
+use ledger::Refusal;
 use libc::STDOUT_FILENO;
 use normaliser::Written;
 use normaliser::printed::Line;
@@ -34,7 +35,7 @@ fn tell_finder(text: &[u8]) {
     match outcome {
         Outcome::Breach(n) => show(breach_line(n as usize, places)),
         Outcome::Clear => show(none_line()),
-        Outcome::Refused(x) => show(refusal_line(x.number, x.line)),
+        Outcome::Refused(x) => show(refusal_line(x)),
     }
 }
 
@@ -50,7 +51,7 @@ fn tell_written(text: &[u8], normal: &[u8], lent: &mut [u8]) {
     let written = normaliser::normalise(text, lent);
     match written {
         Written::Wrote(n) => tell_same(n == normal.len() && check::same(lent, normal)),
-        Written::Refused(x) => show(refusal_line(x.number, x.line)),
+        Written::Refused(x) => show(refusal_line(x)),
     }
 }
 
@@ -61,9 +62,14 @@ fn tell_normaliser(text: &[u8], normal: &[u8]) {
 }
 
 fn tell_long() {
-    show(refusal_line(11, 0));
+    let x = Refusal {
+        number: 11,
+        line: 0,
+        offset: 0,
+    };
+    show(refusal_line(x));
     io::write_all(STDOUT_FILENO, b" / ");
-    show(refusal_line(11, 0));
+    show(refusal_line(x));
 }
 
 fn tell(text: &[u8], normal: &[u8]) {

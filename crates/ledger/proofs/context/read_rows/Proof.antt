@@ -32,8 +32,8 @@ line-at-requires c κs = search mine
 enum-known-end : tie.Need-enum-known-end Inv-loop μ-loop
 enum-known-end c = search mine
 
-enum-told : tie.Need-enum-told Inv-loop μ-loop
-enum-told c = search mine
+enum-known-o : tie.Need-enum-known-o Inv-loop μ-loop
+enum-known-o c = search mine
 
 refuse-requires : tie.Need-refuse-requires Inv-loop μ-loop
 refuse-requires c κs = search mine
@@ -136,7 +136,7 @@ read-rows-spec =
     kind-at-requires
     line-at-requires
     enum-known-end
-    enum-told
+    enum-known-o
     refuse-requires
     returns
     row-line-requires

@@ -1,4 +1,4 @@
--- `printed::refusal_line` meets its contract: the line of the code, the number and the two bytes of the place, high byte first.
+-- `printed::refusal_line` meets its contract: the line of the code, the number, and the two bytes of the place and of the offset, high byte first.
 -- Assumes nothing.
 use Rattle.normaliser.proofs.Printing.{mine}
 use Rattle.normaliser.proofs.printed.refusal_line.Statement.{statement}
@@ -10,6 +10,12 @@ high-requires c κs = search mine
 low-requires : tie.Need-low-requires
 low-requires c κs = search mine
 
+high-requires-2 : tie.Need-high-requires-2
+high-requires-2 c κs = search mine
+
+low-requires-2 : tie.Need-low-requires-2
+low-requires-2 c κs = search mine
+
 line-of-requires : tie.Need-line-of-requires
 line-of-requires c κs = search mine
 
@@ -17,4 +23,4 @@ returns : tie.Need-returns
 returns c = search mine
 
 pub refusal-line-spec : {M : Type 1} → statement M
-refusal-line-spec = tie.close (tie.spec high-requires low-requires line-of-requires returns)
+refusal-line-spec = tie.close (tie.spec high-requires low-requires high-requires-2 low-requires-2 line-of-requires returns)

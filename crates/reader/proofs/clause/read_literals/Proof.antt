@@ -28,8 +28,8 @@ line-at-requires c κs = search mine
 enum-known-end : tie.Need-enum-known-end Inv-loop μ-loop
 enum-known-end c = search mine
 
-enum-told : tie.Need-enum-told Inv-loop μ-loop
-enum-told c = search mine
+enum-known-o : tie.Need-enum-known-o Inv-loop μ-loop
+enum-known-o c = search mine
 
 refuse-requires : tie.Need-refuse-requires Inv-loop μ-loop
 refuse-requires c κs = search mine
@@ -52,7 +52,7 @@ refuse-requires-2 c κs = search mine
 returns-2 : tie.Need-returns-2 Inv-loop μ-loop
 returns-2 c =
     literal-stop _ _ _ _ _ _ _ _ (c .before .before .before .before .before .before .before .before .before .before .before .before .before .loop .inv) (line-legible _ _ _ (c .before .before .before .before .before .before .before .before .line-at .ensures) _ (c .before .before .before .before .before .before .end .given .1)) _ (c .before .before .before .before .before .before .before .before .before .before .before .kind-at .ensures) (c .before .before .before .before .before .before .before .before .before .before .if1 .left)
-    (c .before .before .before .before .before .before .before .before .before .if2 .left) _ (c .before .before .before .before .pair-line .ensures) _ _ (c .before .before .x .given .1) (c .refuse2 .ensures)
+    (c .before .before .before .before .before .before .before .before .before .if2 .left) _ (c .before .before .before .before .pair-line .ensures) _ _ _ (c .before .before .x .given .1) (c .refuse2 .ensures)
 
 cast-k : tie.Need-cast-k Inv-loop μ-loop
 cast-k c = search mine
@@ -111,7 +111,7 @@ read-literals-spec =
     kind-at-requires
     line-at-requires
     enum-known-end
-    enum-told
+    enum-known-o
     refuse-requires
     returns
     pair-line-requires
