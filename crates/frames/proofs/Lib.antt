@@ -1,4 +1,4 @@
-pub mod Table
+pub mod Formula
 pub mod Hex
 pub mod Breaks
 pub mod Scan

@@ -1,27 +1,26 @@
--- `digits::value` meets its contract: the table is the list of the digit values of the bytes from 0 to 255, by computing.
+-- `digits::value` meets its contract: each way out is a part of the rule.
 -- Assumes nothing.
-use mathlib.Core.List.{List}
-use Prim.Native.Nat.{ℕ, _<_}
-use native.Mathlib.Omega.{arith}
-use borrow.Author.Needs.{needs}
-use Rattle.meaning.specs.Text.{digit}
-use Rattle.frames.proofs.Table.{tab, tab-at}
+use Rattle.frames.proofs.Formula.{mine}
 use Rattle.frames.proofs.digits.value.Statement.{statement}
 use Rattle.frames.proofs.digits.value.Tie as tie
 
-array-read-result : tie.Need-array-read-result
-array-read-result c = search needs
-
-table : List ℕ
-unfolding digit
-table = tab digit 0 256
-
-in-table : (c : tie.Start) → c .args .b < 256
-in-table c = omega arith
-
 returns : tie.Need-returns
-unfolding table
-returns c = tab-at digit 256 (c .args .b) (in-table c)
+returns c = search mine
+
+returns-2 : tie.Need-returns-2
+returns-2 c = search mine
+
+returns-3 : tie.Need-returns-3
+returns-3 c = search mine
+
+sub-result : tie.Need-sub-result
+sub-result c = search mine
+
+returns-4 : tie.Need-returns-4
+returns-4 c = search mine
+
+returns-5 : tie.Need-returns-5
+returns-5 c = search mine
 
 pub value-spec : {M : Type 1} → statement M
-value-spec = tie.close (tie.spec array-read-result returns)
+value-spec = tie.close (tie.spec returns returns-2 returns-3 sub-result returns-4 returns-5)
