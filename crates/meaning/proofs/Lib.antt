@@ -1,5 +1,6 @@
 -- The root of the laws, by subject: truth values and lists; terms and the model theorem; a closing; what is kept apart; the search for a first
--- breach; the values of pattern rows; texts; normal texts and demand 3; what is computed, the sheet and the controls; grounds for a breach.
+-- breach; the values of pattern rows; texts; normal texts and demand 3; what is computed, the sheet and the controls; grounds for a breach;
+-- differences that follow.
 pub mod Logic
 pub mod Lists
 pub mod Table
@@ -61,3 +62,9 @@ pub mod Cited
 pub mod Checks
 pub mod Verdicts
 pub mod GroundControls
+pub mod Following
+pub mod FollowingOutside
+pub mod FollowingClosing
+pub mod FollowingTable
+pub mod FollowingNumbers
+pub mod FollowingControls

@@ -10,6 +10,7 @@ pub mod Listing
 pub mod Formed
 pub mod Columns
 pub mod ByTable
+pub mod Following
 pub mod Values
 pub mod FirstBy
 pub mod Next

@@ -1,0 +1,107 @@
+-- Differences that follow, tried at small texts, by computing: one statement over the list.
+--     Case, Tried       a text with two rows that differ, or that do not
+--     cases, shown      what is easily got wrong: two levels deep, either way round, through a merge, and what only two equations together would do
+-- Assumes nothing.
+use mathlib.Core.Bool.{Bool, true, false, not, _&&_}
+use mathlib.Core.List.{List, [], _∷_}
+use mathlib.Core.Path.{_≡_, refl}
+use Prim.Native.Nat.{ℕ, _<_}
+use Prim.Native.String as S
+use lib.Dec.{ltb}
+use borrow.Author.Tests.{ltb-true, not-true}
+use lib.ListN.{length}
+use Rattle.meaning.specs.Context.{termAt, Context, equationsOf, differencesOf}
+use Rattle.meaning.specs.Text.{Read, Reading, faulty, taken, rowsOf, read, narrow, readLines, linesOf, linesFrom, digit, fields, isListed, listedAs, sizeOf, entryOf, rankOf, putContext, put, putClause, firstFailing, isNowhere, nonDigit, legible, known, sized, ranked, room, namedBy, tableOf, noRow, refers, rowsAgree, patternsAgree, agrees, testsOf, firstFault}
+use Rattle.meaning.specs.ByTable.{sameList}
+use Rattle.meaning.specs.Sheet.{bytes}
+use Rattle.meaning.specs.Following.{DifferWider, followsBy}
+use Rattle.meaning.proofs.Logic.{and-true-left, and-true-right, false-true}
+use Rattle.meaning.proofs.Progress.{move, total}
+use Rattle.meaning.proofs.Closing.{close, agree, rounds, round, rowsPass, rowPass, statedPass, upto, unite, uniteIf, count}
+use Rattle.meaning.proofs.Taken.{read-formed}
+use Rattle.meaning.proofs.FollowingNumbers.{widerBy, widerBy-inside, widerBy-rows}
+
+pub data Case : Type 0 where
+  differs stays : S.String → ℕ → ℕ → Case
+
+-- what is said of the two rows in the context of a text that is read
+abbrev pub Said : S.String → ℕ → ℕ → (Context → Type 0) → Type 0
+Said text i j So =
+    (s : Read) × (read narrow (bytes text) ≡ taken s) × (i < length (rowsOf s)) × (j < length (rowsOf s)) × So (s .ledger .context)
+
+abbrev pub Tried : Case → Type 0
+Tried (differs text i j) = Said text i j (λ c. DifferWider c (termAt (c .rows) i) (termAt (c .rows) j))
+Tried (stays text i j) = Said text i j (λ c. DifferWider c (termAt (c .rows) i) (termAt (c .rows) j) → ⊥)
+
+abbrev pub AllTried : List Case → Type 0
+AllTried [] = Unit {0}
+AllTried (e ∷ es) = Tried e × AllTried es
+
+unfoldable pub cases : List Case
+cases =
+    -- g(f(a), h(b)) and g(f(b), h(a)) differ: a and b do, either way round
+    differs "01000100\n01000200\n0101010100\n0101020101\n0101010101\n0101020100\n010201020203\n010201020405\n030607\n" 0 1
+    ∷ differs "01000100\n01000200\n0101010100\n0101020101\n0101010101\n0101020100\n010201020203\n010201020405\n030607\n" 1 0
+    -- and f(a) and f(b) do not: h(a) and h(b) would have to be one too
+    ∷ stays "01000100\n01000200\n0101010100\n0101020101\n0101010101\n0101020100\n010201020203\n010201020405\n030607\n" 2 4
+    -- f(f(a)) and f(f(b)) differ
+    ∷ differs "01000100\n01000200\n0101010100\n0101010101\n0101010102\n0101010103\n030504\n" 0 1
+    -- a and f(f(a)) differ: a and f(a) do
+    ∷ differs "01000100\n0101010100\n0101010101\n030002\n" 0 1
+    -- f(a) = c, f(b) = d, c and d differ
+    ∷ differs "01000100\n01000200\n01000300\n01000400\n0101010100\n0101010101\n020402\n020503\n030203\n" 0 1
+    -- g(a, b) and g(c, d) differ: neither a and c nor b and d do
+    ∷ stays "01000100\n01000200\n01000300\n01000400\n010201020001\n010201020203\n030405\n" 0 2
+    ∷ stays "01000100\n01000200\n01000300\n01000400\n010201020001\n010201020203\n030405\n" 1 3
+    -- f(a) and b differ: a and b do not
+    ∷ stays "01000100\n01000200\n0101010100\n030201\n" 0 1
+    ∷ []
+
+-- ---- by computing
+
+unfoldable tests : ℕ → ℕ → Bool → Reading → Bool
+tests i j b (faulty f) = false
+tests i j true (taken s) = widerBy (s .ledger .context) i j
+tests i j false (taken s) = (ltb i (length (rowsOf s)) && ltb j (length (rowsOf s))) && not (widerBy (s .ledger .context) i j)
+
+unfoldable test : Case → Bool
+test (differs text i j) = tests i j true (read narrow (bytes text))
+test (stays text i j) = tests i j false (read narrow (bytes text))
+
+unfoldable all : List Case → Bool
+unfolding tests test bytes widerBy followsBy read readLines linesOf linesFrom digit fields isListed listedAs sizeOf entryOf rankOf putContext putClause put firstFailing isNowhere nonDigit legible known sized ranked room namedBy tableOf noRow refers rowsAgree patternsAgree agrees testsOf firstFault equationsOf differencesOf sameList close rounds round rowsPass rowPass statedPass upto uniteIf agree unite count move total
+all [] = true
+all (e ∷ es) = test e && all es
+
+tried : (e : Case) → test e ≡ true → Tried e
+unfolding test tests
+tried (differs text i j) t = go (read narrow (bytes text)) refl t
+  where
+    go : (x : Reading) → read narrow (bytes text) ≡ x → tests i j true x ≡ true → Tried (differs text i j)
+    go (faulty f) e u = false-true u refl
+    go (taken s) e u =
+        let c : Context = s .ledger .context in
+        let w : (i < length (c .rows)) × (j < length (c .rows)) = widerBy-inside c i j u in
+        (s, e, w .0, w .1, widerBy-rows c (read-formed narrow (bytes text) s e .fit) i j (w .0) (w .1) .1 u)
+tried (stays text i j) t = go (read narrow (bytes text)) refl t
+  where
+    go : (x : Reading) → read narrow (bytes text) ≡ x → tests i j false x ≡ true → Tried (stays text i j)
+    go (faulty f) e u = false-true u refl
+    go (taken s) e u =
+        let c : Context = s .ledger .context in
+        let a : Bool = ltb i (length (c .rows)) in
+        let b : Bool = ltb j (length (c .rows)) in
+        let h : (a && b) ≡ true = and-true-left (a && b) (not (widerBy c i j)) u in
+        let l : i < length (c .rows) = ltb-true _ _ (and-true-left a b h) in
+        let r : j < length (c .rows) = ltb-true _ _ (and-true-right a b h) in
+        let n : widerBy c i j ≡ false = not-true (widerBy c i j) (and-true-right (a && b) (not (widerBy c i j)) u) in
+        (s, e, l, r, λ d. false-true (widerBy-rows c (read-formed narrow (bytes text) s e .fit) i j l r .0 d) n)
+
+all-tried : (es : List Case) → all es ≡ true → AllTried es
+unfolding all
+all-tried [] t = tt
+all-tried (e ∷ es) t = (tried e (and-true-left (test e) (all es) t), all-tried es (and-true-right (test e) (all es) t))
+
+pub shown : AllTried cases
+unfolding cases all
+shown = all-tried cases refl
