@@ -1,0 +1,123 @@
+-- At the start each entry has a reflexive step, and its number for a label.
+--     started-going   and all that holds between the passes holds
+-- Assumes nothing.
+use mathlib.Core.Bool.{Bool, true, false}
+use mathlib.Core.List.{List, []}
+use mathlib.Core.Path.{_≡_, refl, ap, sym, _∙_, subst}
+use Prim.Native.Nat.{ℕ, zero, suc, _+_, _≤_, _<_}
+use native.Mathlib.Omega.{arith}
+use lib.Dec.{eqb}
+use borrow.Author.Tests.{eqb-true, eqb-false}
+use lib.ListN.{length, getD, length-replicate, getD-replicate}
+use Rattle.meaning.specs.Context.{Context}
+use Rattle.meaning.specs.Rules.{Clause}
+use Rattle.meaning.specs.Grounds.{Step}
+use Rattle.meaning.specs.Values.{numberAt}
+use Rattle.meaning.proofs.Cited.{Ready}
+use Rattle.grounding.specs.Draft.{countIn, Written, pushed}
+use Rattle.grounding.specs.Classes.{labelIn, whyIn, State, upto}
+use Rattle.grounding.specs.Rounds.{startOne, blank, started}
+use Rattle.grounding.proofs.Drafts.{length-draft, count-pushed, number-pushed}
+use Rattle.grounding.proofs.Builds.{all, Steps, Shows, Made, number-term, number-inside, reflexive-made}
+use Rattle.grounding.proofs.Joins.{length-fresh, label-fresh, why-fresh, label-other, why-other}
+use Rattle.grounding.proofs.Payments.{paid-start}
+use Rattle.grounding.proofs.Outcomes.{Going}
+
+blank-count : countIn (blank .cells) ≡ 0
+unfolding blank
+blank-count = getD-replicate 114689 0 0 0 (omega arith)
+
+blank-cells : length (blank .cells) ≡ 114689
+unfolding blank
+blank-cells = length-replicate {A = ℕ} 114689 0
+
+blank-table : length (blank .table) ≡ 638
+unfolding blank
+blank-table = length-replicate {A = ℕ} 638 0
+
+module _ (c : Context) (k : Clause) (a : List ℕ) (ns : List ℕ) (ready : Ready c k a ns) (few : length (c .rows) + length (k .patterns) ≤ 319) where
+  abbrev N : ℕ
+  N = all c k a ns ready
+
+  -- after the first n entries
+  record Starting (n : ℕ) (state : State) : Type 0 where
+    good : Steps c k a ns ready (state .cells)
+    count : countIn (state .cells) ≡ n
+    long : length (state .table) ≡ 638
+    own : (x : ℕ) → x < n → Shows c k a ns ready (state .cells) (x + 1) x (numberAt ns x)
+    label : (x : ℕ) → x < n → labelIn (state .table) x ≡ numberAt ns x
+    why : (x : ℕ) → x < n → whyIn (state .table) x ≡ x + 1
+
+  starting : Starting 0 blank
+  starting =
+      record {
+        good = record { follow = λ i h. absurd (omega (arith, length-draft (length (c .rows)) (blank .cells), blank-count)); long = blank-cells };
+        count = blank-count;
+        long = blank-table;
+        own = λ x h. absurd (omega arith);
+        label = λ x h. absurd (omega arith);
+        why = λ x h. absurd (omega arith);
+      }
+
+  start-next : (n : ℕ) → n < N → (state : State) → Starting n state → Starting (suc n) (startOne ns n state)
+  unfolding startOne
+  start-next n h state s =
+      record {
+        good = m .grown .good;
+        count = count-pushed (length (c .rows)) (state .cells) 2 n (numberAt ns n) 0 0 0 0 (s .good .long) room ∙ ap suc (s .count);
+        long = length-fresh (state .table) n (numberAt ns n) (w .number) (s .long) (omega arith);
+        own = λ x l. own′ x l (eqb x n) refl;
+        label = λ x l. label′ x l (eqb x n) refl;
+        why = λ x l. why′ x l (eqb x n) refl;
+      }
+    where
+      room : countIn (state .cells) < 16384
+      room = omega (arith, s .count)
+
+      w : Written
+      w = pushed (state .cells) 2 n (numberAt ns n) 0 0 0 0
+
+      m : Made c k a ns ready (state .cells) w 1 n (numberAt ns n)
+      m =
+          reflexive-made c k a ns ready (state .cells) (s .good) room n (numberAt ns n) h (number-inside c k a ns ready n h) (sym (number-term c k a ns ready n h))
+
+      number : w .number ≡ n + 1
+      number = number-pushed (length (c .rows)) (state .cells) 2 n (numberAt ns n) 0 0 0 0 (s .good .long) room ∙ omega (arith, s .count)
+
+      own′ : (x : ℕ) → x < suc n → (b : Bool) → eqb x n ≡ b → Shows c k a ns ready (w .cells) (x + 1) x (numberAt ns x)
+      own′ x l true e = rw (eqb-true x n e, sym number) (m .shows)
+      own′ x l false e = m .grown .keeps _ _ _ (s .own x (omega (arith, eqb-false x n e)))
+
+      label′ : (x : ℕ) → x < suc n → (b : Bool) → eqb x n ≡ b → labelIn (startOne ns n state .table) x ≡ numberAt ns x
+      label′ x l true e = rw (eqb-true x n e) (label-fresh (state .table) n (numberAt ns n) (w .number) (s .long) (omega arith))
+      label′ x l false e =
+          label-other (state .table) n (numberAt ns n) (w .number) (s .long) (omega arith) x (omega arith) (eqb-false x n e)
+          ∙ s .label x (omega (arith, eqb-false x n e))
+
+      why′ : (x : ℕ) → x < suc n → (b : Bool) → eqb x n ≡ b → whyIn (startOne ns n state .table) x ≡ x + 1
+      why′ x l true e = rw (eqb-true x n e) (why-fresh (state .table) n (numberAt ns n) (w .number) (s .long) (omega arith) ∙ number)
+      why′ x l false e =
+          why-other (state .table) n (numberAt ns n) (w .number) (s .long) (omega arith) x (eqb-false x n e) ∙ s .why x (omega (arith, eqb-false x n e))
+
+  start-all : (n : ℕ) → n ≤ N → Starting n (started ns n)
+  unfolding started upto
+  start-all zero h = starting
+  start-all (suc n) h = start-next n (omega arith) (started ns n) (start-all n (omega arith))
+
+  pub started-going : Going c k a ns ready few (started ns N)
+  started-going =
+      record {
+        sound = record {
+          good = s .good;
+          long = s .long;
+          own = s .own;
+          inside = λ x h. rw (s .label x h) (number-inside c k a ns ready x h);
+          why = λ x h. rw (s .why x h, s .label x h) (s .own x h);
+          like = λ x h. rw (s .label x h, s .label (numberAt ns x) (number-inside c k a ns ready x h)) (sym (ready .faithful .settled x h));
+          settled = λ x h. rw (s .label x h, s .label (numberAt ns x) (number-inside c k a ns ready x h)) (ready .faithful .settled x h);
+        };
+        paid = paid-start N (labelIn (started ns N .table)) (countIn (started ns N .cells)) (omega (arith, s .count));
+      }
+    where
+      s : Starting N (started ns N)
+      s = start-all N (omega arith)

@@ -1,0 +1,70 @@
+-- Steps on the way, in one column of numbers, and how one step is made of others.
+--     countIn, stepIn   place 0 is how many there are; step i has the seven places after 7i: kind, left entry, right entry, four numbers
+--     draft             the steps that a column holds
+--     Written           a column, and the number of one of its steps
+--     Wrote             what a function has left
+--     pushed            one step more, where there is room
+--     turned, linked    y = x by x = y; x = y by x = m and m = y: a step at hand where two of the entries are one, and else a new one
+-- Entries are the context's rows and then the pattern rows. Assumes nothing.
+use mathlib.Core.Bool.{true, false}
+use mathlib.Core.List.{List, [], _∷_, _++_}
+use mathlib.Core.Path.{_≡_}
+use Prim.Native.Nat.{ℕ, zero, suc, _+_, _-_, _*_}
+use lib.Dec.{eqb, ltb}
+use lib.ListN.{getD, set}
+use Rattle.meaning.specs.Grounds.{Ref, Step}
+
+-- of so many context rows
+unfoldable pub refOf : ℕ → ℕ → Ref
+refOf rows x = elim (ltb x rows) [ true ↦ record { mark = 0; row = x } | false ↦ record { mark = 1; row = x - rows } ]
+
+unfoldable pub stepOf : ℕ → ℕ → ℕ → ℕ → List ℕ → Step
+stepOf rows kind x y ns = record { owner = 0; kind = kind; left = refOf rows x; right = refOf rows y; numbers = ns }
+
+abbrev pub countIn : List ℕ → ℕ
+countIn cells = getD cells 0 0
+
+unfoldable pub stepIn : ℕ → List ℕ → ℕ → Step
+stepIn rows cells i =
+    stepOf rows (getD cells (i * 7 + 1) 0) (getD cells (i * 7 + 2) 0) (getD cells (i * 7 + 3) 0)
+    (getD cells (i * 7 + 4) 0 ∷ getD cells (i * 7 + 5) 0 ∷ getD cells (i * 7 + 6) 0 ∷ getD cells (i * 7 + 7) 0 ∷ [])
+
+-- the first n
+unfoldable pub draftTo : ℕ → List ℕ → ℕ → List Step
+draftTo rows cells zero = []
+draftTo rows cells (suc n) = draftTo rows cells n ++ (stepIn rows cells n ∷ [])
+
+unfoldable pub draft : ℕ → List ℕ → List Step
+draft rows cells = draftTo rows cells (countIn cells)
+
+pub record Written : Type 0 where
+  pub cells : List ℕ
+  pub number : ℕ
+
+-- a column and a number are those
+pub record Wrote (cells : List ℕ) (number : ℕ) (w : Written) : Type 0 where
+  pub column : cells ≡ w .cells
+  pub step : number ≡ w .number
+
+abbrev pub laid : List ℕ → ℕ → ℕ → ℕ → ℕ → ℕ → ℕ → ℕ → ℕ → List ℕ
+laid l p kind x y a b c d = set (set (set (set (set (set (set l (p + 1) kind) (p + 2) x) (p + 3) y) (p + 4) a) (p + 5) b) (p + 6) c) (p + 7) d
+
+-- number 0 where there is no room
+unfoldable pub pushed : List ℕ → ℕ → ℕ → ℕ → ℕ → ℕ → ℕ → ℕ → Written
+pushed cells kind x y a b c d =
+    elim (ltb (countIn cells) 16384) [
+      | true ↦ record { cells = set (laid cells (countIn cells * 7) kind x y a b c d) 0 (countIn cells + 1); number = countIn cells + 1 }
+      | false ↦ record { cells = cells; number = 0 }
+    ]
+
+-- step s is x = y
+unfoldable pub turned : List ℕ → ℕ → ℕ → ℕ → Written
+turned cells s x y = elim (eqb x y) [ true ↦ record { cells = cells; number = s } | false ↦ pushed cells 3 y x s 0 0 0 ]
+
+-- step s is x = m, and step t is m = y
+unfoldable pub linked : List ℕ → ℕ → ℕ → ℕ → ℕ → ℕ → Written
+linked cells s t x m y =
+    elim (eqb x m) [
+      | true ↦ record { cells = cells; number = t }
+      | false ↦ elim (eqb m y) [ true ↦ record { cells = cells; number = s } | false ↦ pushed cells 4 x y s t 0 0 ]
+    ]

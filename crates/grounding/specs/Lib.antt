@@ -1,0 +1,7 @@
+-- The root of the definitions.
+pub mod Draft
+pub mod Classes
+pub mod Rounds
+pub mod Concluding
+pub mod Sweeping
+pub mod Grounds
