@@ -1,5 +1,6 @@
 -- An answer is one: two answers that meet the contract of `judge` on the same input are equal.
---     answer-one    so it is
+--     verdict-answer   two answers with one verdict are equal
+--     answer-one       so it is
 -- Assumes nothing.
 use mathlib.Core.List.{List}
 use mathlib.Core.Path.{_≡_, refl}
@@ -12,7 +13,7 @@ use Rattle.verifier.specs.Claims.{verdictOf}
 use Rattle.verifier.specs.declared.Answer.{Answer}
 use Rattle.verifier.specs.declared.Answer.the-variants.{Accepted, Unassigned, Bad, Unconcluded}
 
-verdict-answer : (r q : Answer) → verdictOf r ≡ verdictOf q → r ≡ q
+pub verdict-answer : (r q : Answer) → verdictOf r ≡ verdictOf q → r ≡ q
 verdict-answer Accepted Accepted e = refl
 verdict-answer Accepted (Unassigned v) e = cc
 verdict-answer Accepted (Bad n) e = cc

@@ -1,0 +1,4 @@
+-- The root of the laws.
+pub mod Holding
+pub mod Judging
+pub mod Answers
