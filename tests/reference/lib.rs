@@ -3,6 +3,7 @@
 
 pub mod breach;
 pub mod closing;
+pub mod grounds;
 pub mod normal;
 pub mod text;
 

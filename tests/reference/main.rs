@@ -1,4 +1,4 @@
-//! reference find | normalise | breaches     a text on standard input, the program's reply on standard output
+//! reference find | normalise | breaches | verify     a text on standard input (for verify with grounds after it), the program's reply on standard output
 
 use std::io::{Read, Write};
 
@@ -9,7 +9,8 @@ fn main() {
         Some("find") => reference::find_prints(&input),
         Some("normalise") => reference::normalise_prints(&input),
         Some("breaches") => reference::breaches_prints(&input),
-        _ => panic!("reference find | normalise | breaches"),
+        Some("verify") => reference::grounds::verify_prints(&input),
+        _ => panic!("reference find | normalise | breaches | verify"),
     };
     std::io::stdout().write_all(&reply).expect("standard output");
 }

@@ -128,7 +128,7 @@ fn bad_byte(line: &[u8]) -> usize {
     line.iter().position(|byte| digit(*byte).is_err()).unwrap_or(line.len())
 }
 
-fn digit(byte: u8) -> Result<u8, u8> {
+pub(crate) fn digit(byte: u8) -> Result<u8, u8> {
     match byte {
         b'0'..=b'9' => Ok(byte - b'0'),
         b'A'..=b'F' => Ok(byte - b'A' + 10),

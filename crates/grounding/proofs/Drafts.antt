@@ -59,8 +59,12 @@ stepIn-same : (rows : ℕ) (cells other : List ℕ) (i : ℕ) → ((j : ℕ) →
 unfolding stepIn
 stepIn-same rows cells other i w =
     rw (
-      w (i * 7 + 1) (omega arith) (omega arith), w (i * 7 + 2) (omega arith) (omega arith), w (i * 7 + 3) (omega arith) (omega arith),
-      w (i * 7 + 4) (omega arith) (omega arith), w (i * 7 + 5) (omega arith) (omega arith), w (i * 7 + 6) (omega arith) (omega arith),
+      w (i * 7 + 1) (omega arith) (omega arith),
+      w (i * 7 + 2) (omega arith) (omega arith),
+      w (i * 7 + 3) (omega arith) (omega arith),
+      w (i * 7 + 4) (omega arith) (omega arith),
+      w (i * 7 + 5) (omega arith) (omega arith),
+      w (i * 7 + 6) (omega arith) (omega arith),
       w (i * 7 + 7) (omega arith) (omega arith),
     )
 
@@ -110,8 +114,12 @@ module _ (rows : ℕ) (cells : List ℕ) (kind x y a b c d : ℕ) (long : length
   unfolding stepIn
   step-after =
       rw (
-        placed 0 (n * 7 + 1) (omega arith) (omega arith), placed 1 (n * 7 + 2) (omega arith) (omega arith), placed 2 (n * 7 + 3) (omega arith) (omega arith),
-        placed 3 (n * 7 + 4) (omega arith) (omega arith), placed 4 (n * 7 + 5) (omega arith) (omega arith), placed 5 (n * 7 + 6) (omega arith) (omega arith),
+        placed 0 (n * 7 + 1) (omega arith) (omega arith),
+        placed 1 (n * 7 + 2) (omega arith) (omega arith),
+        placed 2 (n * 7 + 3) (omega arith) (omega arith),
+        placed 3 (n * 7 + 4) (omega arith) (omega arith),
+        placed 4 (n * 7 + 5) (omega arith) (omega arith),
+        placed 5 (n * 7 + 6) (omega arith) (omega arith),
         placed 6 (n * 7 + 7) (omega arith) (omega arith),
       )
 

@@ -108,18 +108,18 @@ module _ (c : Context) (k : Clause) (a : List ℕ) (ns : List ℕ) (ready : Read
       record {
         one = united (j .ends);
         outcome = record {
-        going = record {
-          sound = j .moved .sound;
-          paid = paid-join N (labelIn (state .table)) (labelIn (after .table)) (j .from) (j .to) (countIn (state .cells)) (countIn (after .cells)) (g .paid) (j .moved .labels) apart
-              (from-inside (j .ends))
-              (from-root (j .ends))
-              (to-root (j .ends))
-              (omega (arith, size-in (state .table) (j .from) N, size-in (state .table) (j .to) N, j .smaller))
-              (omega (arith, size-in (state .table) (j .from) N, j .moved .grown .more, m .grown .more));
-        };
-        coarser = λ u v hu hv e. j .moved .labels u hu ∙ ap (move (j .to) (j .from)) e ∙ sym (j .moved .labels v hv);
-        least = omega (arith, j .moved .grown .least);
-        did = inr (omega (arith, j .moved .grown .least));
+          going = record {
+            sound = j .moved .sound;
+            paid = paid-join N (labelIn (state .table)) (labelIn (after .table)) (j .from) (j .to) (countIn (state .cells)) (countIn (after .cells)) (g .paid) (j .moved .labels) apart
+                (from-inside (j .ends))
+                (from-root (j .ends))
+                (to-root (j .ends))
+                (omega (arith, size-in (state .table) (j .from) N, size-in (state .table) (j .to) N, j .smaller))
+                (omega (arith, size-in (state .table) (j .from) N, j .moved .grown .more, m .grown .more));
+          };
+          coarser = λ u v hu hv e. j .moved .labels u hu ∙ ap (move (j .to) (j .from)) e ∙ sym (j .moved .labels v hv);
+          least = omega (arith, j .moved .grown .least);
+          did = inr (omega (arith, j .moved .grown .least));
         };
       }
     where
@@ -234,8 +234,7 @@ module _ (c : Context) (k : Clause) (a : List ℕ) (ns : List ℕ) (ready : Read
   pub inside : (i : ℕ) → i < length eqs → (leftAt eqs i < N) × (rightAt eqs i < N)
   inside i h =
       let l : i < length (equations c) = omega (arith, length-numbered ns (equations c)) in
-      let b : (leftAt (equations c) i < length (c .rows)) × (rightAt (equations c) i < length (c .rows)) = ready .formed .fit .within i l in
-      (
+      let b : (leftAt (equations c) i < length (c .rows)) × (rightAt (equations c) i < length (c .rows)) = ready .formed .fit .within i l in (
         rw (numbered-left ns (equations c) i l) (number-inside c k a ns ready (leftAt (equations c) i) (omega (arith, b .0))),
         rw (numbered-right ns (equations c) i l) (number-inside c k a ns ready (rightAt (equations c) i) (omega (arith, b .1))),
       )

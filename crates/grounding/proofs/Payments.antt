@@ -134,8 +134,12 @@ paid-start n label count h =
 pub paid-most : (n : ℕ) (label : ℕ → ℕ) (count : ℕ) → n ≤ 319 → Paid n label count → count ≤ 7018
 unfolding size
 paid-most n label count h w =
-    omega (arith, w .paid, total-eights n (w .moves)
-    (λ z l. few-doublings (w .moves z) (omega (arith, w .doubles z l, total-ones n (λ i. bit (eqb (label i) (label z))) (λ i m. bit-one (label i) (label z))))))
+    omega (
+      arith,
+      w .paid,
+      total-eights n (w .moves)
+          (λ z l. few-doublings (w .moves z) (omega (arith, w .doubles z l, total-ones n (λ i. bit (eqb (label i) (label z))) (λ i m. bit-one (label i) (label z))))),
+    )
 
 -- steps that are not paid for by a join
 pub paid-fewer : {n : ℕ} {label : ℕ → ℕ} {count : ℕ} (other : ℕ) → other ≤ count → Paid n label count → Paid n label other

@@ -77,17 +77,15 @@ module _ (keep : ℕ → Bool) where
             → (rank keep p < length (swept keep steps (suc n))) × (stepAt (swept keep steps (suc n)) (rank keep p) ≡ renamed (fresh keep) (stepAt steps p))
         go true q true f ih =
             let z : p ≡ n = eqb-true p n f in
-            rw (swept-kept n q, z)
-            (
+            rw (swept-kept n q, z) (
               omega (arith, length-snoc (swept keep steps n) (renamed (fresh keep) (stepAt steps n)), length-swept n),
               ap (λ (i : ℕ). stepAt (swept keep steps n ++ (renamed (fresh keep) (stepAt steps n) ∷ [])) i) (sym (length-swept n))
-              ∙ getD-append-seam (swept keep steps n) (renamed (fresh keep) (stepAt steps n)) [] step₀,
+                  ∙ getD-append-seam (swept keep steps n) (renamed (fresh keep) (stepAt steps n)) [] step₀,
             )
         go true q false f ih =
             let r : (rank keep p < length (swept keep steps n)) × (stepAt (swept keep steps n) (rank keep p) ≡ renamed (fresh keep) (stepAt steps p)) =
             ih (omega (arith, eqb-false p n f)) e in
-            rw (swept-kept n q)
-            (
+            rw (swept-kept n q) (
               omega (arith, length-snoc (swept keep steps n) (renamed (fresh keep) (stepAt steps n)), r .0),
               List·getD-append (swept keep steps n) (renamed (fresh keep) (stepAt steps n) ∷ []) step₀ (rank keep p) (r .0) ∙ r .1,
             )

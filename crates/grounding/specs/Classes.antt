@@ -35,7 +35,7 @@ same cells table x y =
     elim (eqb x y) [
       | true ↦ record { cells = cells; number = x + 1 }
       | false ↦ let back : Written = turned cells (whyIn table y) y (labelIn table y) in
-    linked (back .cells) (whyIn table x) (back .number) x (labelIn table x) y
+          linked (back .cells) (whyIn table x) (back .number) x (labelIn table x) y
     ]
 
 -- the label of x = the label of y, where step s is x = y
@@ -55,7 +55,7 @@ unfoldable pub carry : ℕ → ℕ → ℕ → ℕ → State → State
 carry s p q z state =
     elim (eqb (labelIn (state .table) z) p) [
       | true ↦ let w : Written = linked (state .cells) (whyIn (state .table) z) s z p q in
-    record { cells = w .cells; table = set (set (state .table) z q) (319 + z) (w .number) }
+          record { cells = w .cells; table = set (set (state .table) z q) (319 + z) (w .number) }
       | false ↦ state
     ]
 
@@ -74,5 +74,5 @@ joined n s x y state =
     elim (leb (sizeIn (state .table) (labelIn (state .table) x) n) (sizeIn (state .table) (labelIn (state .table) y) n)) [
       | true ↦ moved n s x y state
       | false ↦ let w : Written = turned (state .cells) s x y in
-    moved n (w .number) y x (record { cells = w .cells; table = state .table })
+          moved n (w .number) y x (record { cells = w .cells; table = state .table })
     ]

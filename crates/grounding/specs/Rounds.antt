@@ -36,7 +36,7 @@ stateOne n eqs i state =
     elim (eqb (labelIn (state .table) (leftAt eqs i)) (labelIn (state .table) (rightAt eqs i))) [
       | true ↦ state
       | false ↦ let w : Written = pushed (state .cells) 1 (leftAt eqs i) (rightAt eqs i) (i + 1) 0 0 0 in
-    joined n (w .number) (leftAt eqs i) (rightAt eqs i) (record { cells = w .cells; table = state .table })
+          joined n (w .number) (leftAt eqs i) (rightAt eqs i) (record { cells = w .cells; table = state .table })
     ]
 
 unfoldable pub stated : ℕ → List (ℕ × ℕ) → State → State
@@ -63,7 +63,7 @@ paired n ks x y state =
       | true ↦ state
       | false ↦ elim (agree ks (state .table) x y) [
         | true ↦ let w : Written = congruence (state .cells) (state .table) (rowAt ks x .args) (rowAt ks y .args) x y in
-    joined n (w .number) x y (record { cells = w .cells; table = state .table })
+            joined n (w .number) x y (record { cells = w .cells; table = state .table })
         | false ↦ state
       ]
     ]

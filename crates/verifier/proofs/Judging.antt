@@ -67,7 +67,7 @@ conclusion-past fs ss ds os (suc n) x rest h =
     skip : conclusionFor (suc x) (conclusionFrom fs ss ds os n ∷ rest) ≡ conclusionFor (suc x) rest
     skip = rw (ne-eqb (suc n) (suc x) (λ e. omega arith), conclusionFor)
 
-conclusions-at : (fs ss ds os : List ℕ) (n j : ℕ) (rest : List Conclusion) → j < n
+pub conclusions-at : (fs ss ds os : List ℕ) (n j : ℕ) (rest : List Conclusion) → j < n
     → conclusionFor (suc j) (conclusionsFrom fs ss ds os n ++ rest) ≡ conclusionFrom fs ss ds os j
 unfolding conclusionsFrom conclusionFor conclusionFrom
 conclusions-at fs ss ds os zero j rest h = absurd (omega arith)

@@ -1,0 +1,6 @@
+-- The root of the laws.
+pub mod Ways
+pub mod Filled
+pub mod Lined
+pub mod Noting
+pub mod Standing

@@ -1,0 +1,13 @@
+-- `intake::without_feed` meets its contract: the line is no longer good.
+-- Assumes nothing.
+use mathlib.Core.Path.{refl}
+use Rattle.intake.specs.Machine.{unended}
+use Rattle.intake.proofs.without_feed.Statement.{statement}
+use Rattle.intake.proofs.without_feed.Tie as tie
+
+returns : tie.Need-returns
+unfolding unended
+returns c = refl
+
+pub without-feed-spec : {M : Type 1} → statement M
+without-feed-spec = tie.close (tie.spec returns)

@@ -1,0 +1,87 @@
+// The conclusions that were given: of two for one literal the first counts, and one for a literal past 16 is not kept.
+use crate::Buffer;
+use crate::Noted;
+use crate::bytes::byte;
+use crate::bytes::four;
+use crate::bytes::two;
+use verifier::Conclusions;
+ghost use mathlib.Core.Path.{_≡_};
+ghost use Prim.Native.Nat.{_<_};
+ghost use Rattle.intake.specs.Parsing.{byteOf, twoOf, fourOf};
+ghost use Rattle.intake.specs.Machine.{noConclusions, putConclusion, noted as notedBy};
+
+pub(crate) fn no_conclusions() -> Noted
+    ensures { λ r. ⌜ r ≡ noConclusions ⌝ }
+{
+    let conclusions = Conclusions {
+        firsts: [0; 16],
+        seconds: [0; 16],
+        differences: [0; 16],
+        orientations: [0; 16],
+    };
+    Noted {
+        conclusions,
+        given: [0; 16],
+    }
+}
+
+fn step_at(l: Buffer, i: usize) -> u32
+    requires { ⌜ i < 13 ⌝ }
+    ensures { λ r. ⌜ r ≡ fourOf (l .values) i ⌝ }
+{
+    four(&l.values, i) as u32
+}
+
+fn difference_in(l: Buffer) -> u16
+    ensures { λ r. ⌜ r ≡ twoOf (l .values) 10 ⌝ }
+{
+    two(&l.values, 10) as u16
+}
+
+fn orientation_in(l: Buffer) -> u8
+    ensures { λ r. ⌜ r ≡ byteOf (l .values) 12 ⌝ }
+{
+    byte(&l.values, 12) as u8
+}
+
+fn literal_in(l: Buffer) -> usize
+    ensures { λ r. ⌜ (r ≡ byteOf (l .values) 1) × (r < 256) ⌝ }
+{
+    byte(&l.values, 1) as usize
+}
+
+// The conclusion for literal i + 1.
+fn put_conclusion(n: Noted, l: Buffer, i: usize) -> Noted
+    requires { ⌜ i < 16 ⌝ }
+    ensures { λ r. ⌜ r ≡ putConclusion n (l .values) i ⌝ }
+{
+    let mut c = n.conclusions;
+    let mut given = n.given;
+    c.firsts[i] = step_at(l, 2);
+    c.seconds[i] = step_at(l, 6);
+    c.differences[i] = difference_in(l);
+    c.orientations[i] = orientation_in(l);
+    given[i] = 1;
+    Noted {
+        conclusions: c,
+        given,
+    }
+}
+
+pub(crate) fn note(n: Noted, l: Buffer) -> Noted
+    ensures { λ r. ⌜ r ≡ notedBy n (l .values) ⌝ }
+{
+    let x = literal_in(l);
+    if x == 0 {
+        return n;
+    }
+    if 16 < x {
+        return n;
+    }
+    let i = x - 1;
+    let given = n.given;
+    if given[i] != 0 {
+        return n;
+    }
+    put_conclusion(n, l, i)
+}

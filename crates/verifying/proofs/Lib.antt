@@ -1,0 +1,3 @@
+-- The root of the laws.
+pub mod Ways
+pub mod Verifying

@@ -1,0 +1,182 @@
+-- What `verify` prints is what it has to print.
+--     verify-prints   the line for an input that was taken in whole is the one that the definition asks for
+--     reply-one       two lines for what was taken in are equal
+-- Assumes nothing.
+use mathlib.Core.Bool.{Bool, true, false}
+use mathlib.Core.List.{List, [], _∷_, append-nil}
+use mathlib.Core.Path.{_≡_, refl, ap, ap₂, sym, _∙_, subst}
+use Prim.Native.Nat.{ℕ, zero, suc, _%_, _≤_, _<_}
+use native.Mathlib.Omega.{arith}
+use lib.Dec.{ltb}
+use borrow.Author.Tests.{ltb-true, ltb-false}
+use lib.ListN.{length, take, drop}
+use Rattle.meaning.specs.Context.{Context}
+use Rattle.meaning.specs.Rules.{Pattern, variable, apply, variables, Clause}
+use Rattle.meaning.specs.Text.{narrow}
+use Rattle.meaning.specs.Writing.{frame}
+use Rattle.meaning.specs.Replies.{refusal}
+use Rattle.meaning.specs.Grounds.{Step, Conclusion, conclusionFor, Verdict, accepted, unassigned, bad, unconcluded, caseOf, detailsOf, Concludes, literalAt, Verified, accepts, unassigns, refuses, leaves-open}
+use Rattle.meaning.specs.GroundColumns.{stepFrom, stepsFrom}
+use Rattle.meaning.proofs.Lines.{Each}
+use Rattle.meaning.proofs.Kept.{PatternFits, read-kept}
+use Rattle.verifier.specs.Claims.{verdictOf}
+use Rattle.verifier.proofs.Judging.{conclusions-at}
+use Rattle.judging.specs.Judgements.{Judgement, judged, refused, Weighed, empty, clashes, weighs, Judges, faults, judges}
+use Rattle.judging.specs.Claims.{judgementOf, concludedIn}
+use Rattle.judging.specs.declared.Outcome.{Outcome}
+use Rattle.judging.specs.declared.Outcome.the-variants as O
+use Rattle.judging.proofs.Answers.{judges-one}
+use Rattle.intake.specs.Parsing.{textOf, groundLines, placesIn, conclusionsIn}
+use Rattle.intake.specs.Machine.{Memory}
+use Rattle.intake.specs.declared.Parser.{Parser}
+use Rattle.intake.proofs.Filled.{Sized, stored-all}
+use Rattle.intake.proofs.Noting.{notes-count}
+use Rattle.intake.proofs.Standing.{Parsed, words-long}
+use Rattle.verifying.specs.Replies.{bytesOf, printed, column, VerifyPrints, long, many, judges as judged-as}
+use Rattle.verifying.specs.Claims.{Prints, lowest, verdictLine, lineOf, Answered, PrintsFor, over, past, answers}
+use Rattle.verifying.specs.declared.Line.{Line}
+
+-- ---- sizes
+
+past-most : (most n size : ℕ) → Sized (suc most) n size → most < size → most < n
+past-most most n size s h = go (ltb n (suc most)) refl
+  where
+    go : (c : Bool) → ltb n (suc most) ≡ c → most < n
+    go true q = omega (arith, s .exact (ltb-true n (suc most) q))
+    go false q = omega (arith, ltb-false n (suc most) q)
+
+within-most : (most n size : ℕ) → Sized (suc most) n size → size ≤ most → n ≤ most
+within-most most n size s h = go (ltb n (suc most)) refl
+  where
+    go : (c : Bool) → ltb n (suc most) ≡ c → n ≤ most
+    go true q = omega (arith, ltb-true n (suc most) q)
+    go false q = omega (arith, s .full (ltb-false n (suc most) q))
+
+-- ---- steps
+
+cut-steps : (n : ℕ) (xs ys zs : List ℕ) → stepsFrom (take n xs) ys zs ≡ stepsFrom (take n xs) (take n ys) (take n zs)
+unfolding stepsFrom
+cut-steps zero xs ys zs = refl
+cut-steps (suc n) [] ys zs = refl
+cut-steps (suc n) (x ∷ xs) [] zs = refl
+cut-steps (suc n) (x ∷ xs) (y ∷ ys) [] = refl
+cut-steps (suc n) (x ∷ xs) (y ∷ ys) (z ∷ zs) = ap (λ (l : List Step). stepFrom x y z ∷ l) (cut-steps n xs ys zs)
+
+-- ---- the same conclusions for the literals that there are
+
+module _ (a : List ℕ) (steps : List Step) (ds es : List Conclusion) where
+  abbrev Alike : ℕ → Type 0
+  Alike n = (i : ℕ) → i < n → conclusionFor (suc i) ds ≡ conclusionFor (suc i) es
+
+  module _ (c : Context) (k : Clause) (alike : Alike (length (k .literals))) where
+    there : (i : ℕ) → i < length (k .literals) → Concludes c k a steps (conclusionFor (suc i) ds) (literalAt (k .literals) i)
+        → Concludes c k a steps (conclusionFor (suc i) es) (literalAt (k .literals) i)
+    there i h w = subst (λ (d : Conclusion). Concludes c k a steps d (literalAt (k .literals) i)) (alike i h) w
+
+    back : (i : ℕ) → i < length (k .literals) → Concludes c k a steps (conclusionFor (suc i) es) (literalAt (k .literals) i)
+        → Concludes c k a steps (conclusionFor (suc i) ds) (literalAt (k .literals) i)
+    back i h w = subst (λ (d : Conclusion). Concludes c k a steps d (literalAt (k .literals) i)) (sym (alike i h)) w
+
+    verified-alike : (v : Verdict) → Verified c k a steps ds v → Verified c k a steps es v
+    verified-alike v (accepts x y z) = accepts x y (λ i h. there i h (z i h))
+    verified-alike v (unassigns i f) = unassigns i (record { inside = f .inside; fails = f .fails; before = f .before })
+    verified-alike v (refuses x i f) = refuses x i (record { inside = f .inside; fails = f .fails; before = f .before })
+    verified-alike v (leaves-open x y i f) =
+        leaves-open x y i
+        (record { inside = f .inside; fails = λ w. f .fails (back i (f .inside) w); before = λ j h. there j (omega (arith, f .inside)) (f .before j h) })
+
+    weighed-alike : (j : Judgement) → Weighed a steps ds c k j → Weighed a steps es c k j
+    weighed-alike j (empty e) = empty e
+    weighed-alike j (clashes e n w) = clashes e n w
+    weighed-alike j (weighs e w v z) = weighs e w v (verified-alike v z)
+
+  judges-alike : (text : List ℕ) (j : Judgement) → Alike 16 → Judges a steps ds narrow text j → Judges a steps es narrow text j
+  judges-alike text j f (faults x e) = faults x e
+  judges-alike text j f (judges s e x w) =
+      judges s e j (weighed-alike (s .ledger .context) (s .clause) (λ i h. f i (omega (arith, read-kept narrow text s e .clauseFits .fewLiterals))) j w)
+
+-- ---- a verdict's values are bytes
+
+variables-few : (ps : List Pattern) → Each (PatternFits narrow) ps → variables ps ≤ 4
+unfolding variables
+variables-few [] e = omega arith
+variables-few (variable v ∷ ps) e = omega (arith, e .0, variables-few ps (e .1))
+variables-few (apply f l ∷ ps) e = variables-few ps (e .1)
+
+module _ (a : List ℕ) (steps : List Step) (ds : List Conclusion) (text : List ℕ) where
+  unassigned-small : (v : ℕ) → Judges a steps ds narrow text (judged (unassigned v)) → v < 256
+  unassigned-small v (judges s e x (weighs f w u (unassigns i k))) = omega (arith, k .inside, variables-few (s .clause .patterns) (read-kept narrow text s e .clauseFits .patternsFit))
+
+  unconcluded-small : (v : ℕ) → Judges a steps ds narrow text (judged (unconcluded v)) → v < 256
+  unconcluded-small v (judges s e x (weighs f w u (leaves-open y z i k))) = omega (arith, k .inside, read-kept narrow text s e .clauseFits .fewLiterals)
+
+  details-bytes : (v : Verdict) → Judges a steps ds narrow text (judged v) → lowest (detailsOf v) ≡ detailsOf v
+  unfolding detailsOf
+  details-bytes accepted w = refl
+  details-bytes (unassigned v) w = let h : v < 256 = unassigned-small v w in let e : v % 256 ≡ v = omega arith in rw e
+  details-bytes (unconcluded v) w = let h : v < 256 = unconcluded-small v w in let e : v % 256 ≡ v = omega arith in rw e
+  details-bytes (bad n) w = simp twice
+    where
+      twice : (x : ℕ) → x % 256 % 256 ≡ x % 256
+      twice x = omega arith
+
+  line-is : (o : Outcome) → Judges a steps ds narrow text (judgementOf o) → lineOf o ≡ printed (judgementOf o)
+  unfolding printed bytesOf
+  line-is (O.Judged x) w = ap (λ (l : List ℕ). frame (11 ∷ caseOf (verdictOf x) ∷ l)) (details-bytes (verdictOf x) w)
+  line-is (O.Refused x) w = refl
+
+-- ---- the line
+
+pub verify-prints : (input : List ℕ) (m : Memory) (r : Line) → Parsed input m → PrintsFor (m .parser) (m .text) (m .firsts) (m .seconds) (m .thirds) r
+    → (line : List ℕ) × VerifyPrints narrow input line × Prints line (r .bytes) (r .len)
+verify-prints input m r w (over h p) = (printed (refused (refusal 11 0)), long (past-most 16384 (length (textOf input)) (m .parser .head .size) (w .sized) h), p)
+verify-prints input m r w (past h k p) = (printed (refused (refusal 11 0)), many (past-most 278528 (length (column input 0)) (m .parser .steps) (w .gathered .counted) k), p)
+verify-prints input m r w (answers h k o q p) =
+    (printed (judgementOf o), judged-as (within-most 16384 (length (textOf input)) (m .parser .head .size) (w .sized) h) (within-most 278528 (length (column input 0)) (m .parser .steps) (w .gathered .counted) k) (judgementOf o) judged-so, subst (λ (l : List ℕ). Prints l (r .bytes) (r .len)) (line-is (placesIn (groundLines input)) (stepsFrom (column input 0) (column input 1) (column input 2)) (conclusionsIn (drop 1 (groundLines input))) (textOf input) o judged-so) p)
+  where
+    text-is : take (m .parser .head .size) (m .text) ≡ textOf input
+    text-is = stored-all 16384 (m .text) (textOf input) (m .parser .head .size) (w .sized) (w .text) h
+
+    first-is : take (m .parser .steps) (m .firsts) ≡ column input 0
+    first-is = stored-all 278528 (m .firsts) (column input 0) (m .parser .steps) (w .gathered .counted) (w .gathered .firsts) k
+
+    sized : (i : ℕ) → Sized 278529 (length (column input i)) (m .parser .steps)
+    sized i = rw (words-long i (drop 1 (groundLines input))) (w .gathered .counted)
+
+    steps-are : stepsFrom (take (m .parser .steps) (m .firsts)) (m .seconds) (m .thirds) ≡ stepsFrom (column input 0) (column input 1) (column input 2)
+    steps-are =
+        cut-steps (m .parser .steps) (m .firsts) (m .seconds) (m .thirds)
+        ∙ rw (
+          first-is,
+          stored-all 278528 (m .seconds) (column input 1) (m .parser .steps) (sized 1) (w .gathered .seconds) k,
+          stored-all 278528 (m .thirds) (column input 2) (m .parser .steps) (sized 2) (w .gathered .thirds) k,
+        )
+
+    alike : (i : ℕ) → i < 16 → conclusionFor (suc i) (concludedIn (m .parser .noted .conclusions)) ≡ conclusionFor (suc i) (conclusionsIn (drop 1 (groundLines input)))
+    alike i l =
+        ap (conclusionFor (suc i)) (sym (append-nil (concludedIn (m .parser .noted .conclusions))))
+        ∙ conclusions-at (m .parser .noted .conclusions .firsts) (m .parser .noted .conclusions .seconds) (m .parser .noted .conclusions .differences) (m .parser .noted .conclusions .orientations) 16 i [] l
+        ∙ notes-count (m .parser .noted) (conclusionsIn (drop 1 (groundLines input))) (w .gathered .notes) i l
+
+    judged-so : Judges (placesIn (groundLines input)) (stepsFrom (column input 0) (column input 1) (column input 2)) (conclusionsIn (drop 1 (groundLines input))) narrow (textOf input) (judgementOf o)
+    judged-so =
+        judges-alike (placesIn (groundLines input)) (stepsFrom (column input 0) (column input 1) (column input 2)) (concludedIn (m .parser .noted .conclusions)) (conclusionsIn (drop 1 (groundLines input))) (textOf input) (judgementOf o) alike
+        (rw (← w .places, ← steps-are, ← text-is) (q .judges .judges))
+
+-- ---- one line
+
+prints-one : (line : List ℕ) (r s : Line) → Prints line (r .bytes) (r .len) → Prints line (s .bytes) (s .len) → r ≡ s
+prints-one line r s p q = ap₂ (λ (b : List ℕ) (n : ℕ). record { bytes = b; len = n }) (p .front ∙ sym (q .front)) (p .size ∙ sym (q .size))
+
+pub reply-one : (p : Parser) (text firsts seconds thirds : List ℕ) (r s : Line) → PrintsFor p text firsts seconds thirds r → PrintsFor p text firsts seconds thirds s → r ≡ s
+reply-one p text firsts seconds thirds r s (over h x) (over k y) = prints-one _ r s x y
+reply-one p text firsts seconds thirds r s (over h x) (past k l y) = absurd (omega arith)
+reply-one p text firsts seconds thirds r s (over h x) (answers k l o w y) = absurd (omega arith)
+reply-one p text firsts seconds thirds r s (past h i x) (over k y) = absurd (omega arith)
+reply-one p text firsts seconds thirds r s (past h i x) (past k l y) = prints-one _ r s x y
+reply-one p text firsts seconds thirds r s (past h i x) (answers k l o w y) = absurd (omega arith)
+reply-one p text firsts seconds thirds r s (answers h i o w x) (over k y) = absurd (omega arith)
+reply-one p text firsts seconds thirds r s (answers h i o w x) (past k l y) = absurd (omega arith)
+reply-one p text firsts seconds thirds r s (answers h i o w x) (answers k l u v y) =
+    let e : o ≡ u = judges-one (take (p .head .size) text) (p .places) (take (p .steps) firsts) seconds thirds (p .noted .conclusions) o u (w .judges) (v .judges) in
+    prints-one (lineOf u) r s (subst (λ (z : Outcome). Prints (lineOf z) (r .bytes) (r .len)) e x) y

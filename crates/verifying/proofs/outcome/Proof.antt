@@ -1,0 +1,20 @@
+-- `verifying::outcome` meets its contract: the judgement is on the fronts of the spaces.
+-- Assumes nothing.
+use Rattle.verifying.proofs.Ways.{mine}
+use Rattle.verifying.proofs.outcome.Statement.{statement}
+use Rattle.verifying.proofs.outcome.Tie as tie
+
+front-requires : tie.Need-front-requires
+front-requires c κs = search mine
+
+words-requires : tie.Need-words-requires
+words-requires c κs = search mine
+
+judge-requires : tie.Need-judge-requires
+judge-requires c κs = search mine
+
+returns : tie.Need-returns
+returns c = search mine
+
+pub outcome-spec : {M : Type 1} → statement M
+outcome-spec = tie.close (tie.spec front-requires words-requires judge-requires returns)

@@ -1,0 +1,82 @@
+-- `verifying::verdict_line` meets its contract. Each way out is one verdict.
+-- Assumes nothing.
+use Rattle.verifying.proofs.Ways.{mine}
+use Rattle.verifying.proofs.verdict_line.Statement.{statement}
+use Rattle.verifying.proofs.verdict_line.Tie as tie
+
+enum-told : tie.Need-enum-told
+enum-told c = search mine
+
+line-two-requires : tie.Need-line-two-requires
+line-two-requires c κs = search mine
+
+enum-known-a : tie.Need-enum-known-a
+enum-known-a c = search mine
+
+low-requires : tie.Need-low-requires
+low-requires c κs = search mine
+
+line-three-requires : tie.Need-line-three-requires
+line-three-requires c κs = search mine
+
+enum-known-a-2 : tie.Need-enum-known-a-2
+enum-known-a-2 c = search mine
+
+low-requires-2 : tie.Need-low-requires-2
+low-requires-2 c κs = search mine
+
+low-requires-3 : tie.Need-low-requires-3
+low-requires-3 c κs = search mine
+
+low-requires-4 : tie.Need-low-requires-4
+low-requires-4 c κs = search mine
+
+low-requires-5 : tie.Need-low-requires-5
+low-requires-5 c κs = search mine
+
+line-six-requires : tie.Need-line-six-requires
+line-six-requires c κs = search mine
+
+enum-known-a-3 : tie.Need-enum-known-a-3
+enum-known-a-3 c = search mine
+
+low-requires-6 : tie.Need-low-requires-6
+low-requires-6 c κs = search mine
+
+line-three-requires-2 : tie.Need-line-three-requires-2
+line-three-requires-2 c κs = search mine
+
+returns : tie.Need-returns
+returns c = search mine
+
+returns-2 : tie.Need-returns-2
+returns-2 c = search mine
+
+returns-3 : tie.Need-returns-3
+returns-3 c = search mine
+
+returns-4 : tie.Need-returns-4
+returns-4 c = search mine
+
+pub verdict-line-spec : {M : Type 1} → statement M
+verdict-line-spec =
+    tie.close
+    (tie.spec
+    enum-told
+    line-two-requires
+    enum-known-a
+    low-requires
+    line-three-requires
+    enum-known-a-2
+    low-requires-2
+    low-requires-3
+    low-requires-4
+    low-requires-5
+    line-six-requires
+    enum-known-a-3
+    low-requires-6
+    line-three-requires-2
+    returns
+    returns-2
+    returns-3
+    returns-4)

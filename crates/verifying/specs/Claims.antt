@@ -1,0 +1,50 @@
+-- What the function claims that gives the output of `verify`.
+--     Prints        a line stands at the front of 16 bytes, zeros after it
+--     lowest        each number's low byte
+--     lineOf        the line of an answer
+--     Answered      the judgement on what was taken in
+--     PrintsFor     the line for it
+-- Assumes nothing.
+use mathlib.Core.List.{List, _∷_, _++_, map}
+use mathlib.Core.Path.{_≡_}
+use Prim.Native.Nat.{ℕ, _-_, _%_, _≤_, _<_}
+use lib.ListN.{length, take, replicate}
+use Rattle.meaning.specs.Writing.{frame}
+use Rattle.meaning.specs.Replies.{refusal}
+use Rattle.meaning.specs.Grounds.{Verdict, caseOf, detailsOf}
+use Rattle.verifier.specs.Claims.{verdictOf}
+use Rattle.ledger.specs.Phases.{meant}
+use Rattle.judging.specs.Judgements.{refused}
+use Rattle.judging.specs.Claims.{JudgesTo}
+use Rattle.judging.specs.declared.Outcome.{Outcome}
+use Rattle.judging.specs.declared.Outcome.the-variants.{Judged, Refused}
+use Rattle.intake.specs.declared.Parser.{Parser}
+use Rattle.verifying.specs.Replies.{printed}
+use Rattle.verifying.specs.declared.Line.{Line}
+
+pub record Prints (line bytes : List ℕ) (len : ℕ) : Type 0 where
+  pub size : len ≡ length line
+  pub front : bytes ≡ line ++ replicate (16 - length line) 0
+
+abbrev pub lowest : List ℕ → List ℕ
+lowest l = map (λ x. x % 256) l
+
+-- a verdict's values as bytes
+abbrev pub verdictLine : Verdict → List ℕ
+verdictLine v = frame (11 ∷ caseOf v ∷ lowest (detailsOf v))
+
+abbrev pub lineOf : Outcome → List ℕ
+lineOf (Judged a) = verdictLine (verdictOf a)
+lineOf (Refused x) = printed (refused (meant x))
+
+-- the steps are as many as the shortest column has places
+pub record Answered (p : Parser) (text firsts seconds thirds : List ℕ) (o : Outcome) : Type 0 where
+  pub judges : JudgesTo (take (p .head .size) text) (p .places) (take (p .steps) firsts) seconds thirds (p .noted .conclusions) o
+
+pub data PrintsFor (p : Parser) (text firsts seconds thirds : List ℕ) (r : Line) : Type 0 where
+  over : 16384 < p .head .size → Prints (printed (refused (refusal 11 0))) (r .bytes) (r .len) → PrintsFor p text firsts seconds thirds r
+  past : p .head .size ≤ 16384 → 278528 < p .steps → Prints (printed (refused (refusal 11 0))) (r .bytes) (r .len) → PrintsFor p text firsts seconds thirds r
+  answers : p .head .size ≤ 16384 → p .steps ≤ 278528 → (o : Outcome)
+      → Answered p text firsts seconds thirds o
+      → Prints (lineOf o) (r .bytes) (r .len)
+      → PrintsFor p text firsts seconds thirds r

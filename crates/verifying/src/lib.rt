@@ -1,0 +1,170 @@
+// What the program `verify` prints.
+mod lines;
+
+use intake::Parser;
+use judging::Outcome;
+use judging::judge;
+use lines::line_six;
+use lines::line_three;
+use lines::line_two;
+use verifier::Answer;
+ghost use mathlib.Core.Path.{_≡_};
+ghost use Prim.Native.Nat.{_-_, _/_, _%_, _≤_, min};
+ghost use lib.ListN.{length, take, drop};
+ghost use Rattle.verifier.specs.Claims.{verdictOf};
+ghost use Rattle.judging.specs.Judgements.{refused};
+ghost use Rattle.verifying.specs.Replies.{printed};
+ghost use Rattle.verifying.specs.Claims.{Prints, verdictLine, lineOf, Answered, PrintsFor};
+
+// The first `len` bytes are the line, and the others are 0.
+pub struct Line {
+    pub bytes: [u8; 16],
+    pub len: usize,
+}
+
+// The most bytes of a text, and the most steps.
+const MOST_TEXT: usize = 16384;
+
+const MOST_STEPS: usize = 278528;
+
+fn low(n: usize) -> u8
+    ensures { λ r. ⌜ r ≡ n % 256 ⌝ }
+{
+    (n % 256) as u8
+}
+
+fn high_byte(x: u16) -> u8
+    ensures { λ r. ⌜ r ≡ x / 256 ⌝ }
+{
+    (x / 256) as u8
+}
+
+fn low_byte(x: u16) -> u8
+    ensures { λ r. ⌜ r ≡ x % 256 ⌝ }
+{
+    (x % 256) as u8
+}
+
+fn verdict_line(a: Answer) -> Line
+    ensures { λ r. ⌜ Prints (verdictLine (verdictOf a)) (r .bytes) (r .len) ⌝ }
+{
+    match a {
+        Answer::Accepted => line_two(11, 0),
+        Answer::Unassigned(v) => line_three(11, 1, low(v)),
+        Answer::Bad(n) => {
+            let b = low(n / 16777216);
+            let c = low(n / 65536);
+            let d = low(n / 256);
+            let e = low(n);
+            line_six(11, 2, b, c, d, e)
+        }
+        Answer::Unconcluded(n) => line_three(11, 3, low(n)),
+    }
+}
+
+fn refusal_line(number: u8, place: u16, offset: u16) -> Line
+    ensures { λ r. ⌜ Prints (printed (refused (record { number = number; place = place; offset = offset }))) (r .bytes) (r .len) ⌝ }
+{
+    line_six(
+        10,
+        number,
+        high_byte(place),
+        low_byte(place),
+        high_byte(offset),
+        low_byte(offset),
+    )
+}
+
+fn outcome_line(o: Outcome) -> Line
+    ensures { λ r. ⌜ Prints (lineOf o) (r .bytes) (r .len) ⌝ }
+{
+    match o {
+        Outcome::Judged(a) => verdict_line(a),
+        Outcome::Refused(x) => refusal_line(x.number, x.line, x.offset),
+    }
+}
+
+fn least(a: usize, b: usize) -> usize
+    ensures { λ r. ⌜ r ≡ min a b ⌝ }
+{
+    if a < b { a } else { b }
+}
+
+// The bytes from a to before e.
+fn bytes_between(s: &[u8], a: usize, e: usize) -> &[u8]
+    requires { ⌜ (a ≤ e) × (e ≤ length (now s)) ⌝ }
+    ensures { λ r. ⌜ now r ≡ take (e - a) (drop a (now (s .entry))) ⌝ }
+{
+    &s[a..e]
+}
+
+// The words from a to before e.
+fn words_between(s: &[u64], a: usize, e: usize) -> &[u64]
+    requires { ⌜ (a ≤ e) × (e ≤ length (now s)) ⌝ }
+    ensures { λ r. ⌜ now r ≡ take (e - a) (drop a (now (s .entry))) ⌝ }
+{
+    &s[a..e]
+}
+
+// The first n bytes, or all of them.
+fn front(text: &[u8], n: usize) -> &[u8]
+    ensures { λ r. ⌜ now r ≡ take n (now (text .entry)) ⌝ }
+{
+    let m = least(n, text.len());
+    bytes_between(text, 0, m)
+}
+
+// The first n words, or all of them.
+fn words(column: &[u64], n: usize) -> &[u64]
+    ensures { λ r. ⌜ now r ≡ take n (now (column .entry)) ⌝ }
+{
+    let m = least(n, column.len());
+    words_between(column, 0, m)
+}
+
+// The judgement on what was taken in. The shortest column says how many steps there are.
+fn outcome<'a>(
+    p: Parser,
+    text: &'a [u8],
+    firsts: &'a [u64],
+    seconds: &'a [u64],
+    thirds: &'a [u64],
+) -> Outcome
+    ensures { λ o. ⌜ Answered p (now (text .entry)) (now (firsts .entry)) (now (seconds .entry)) (now (thirds .entry)) o ⌝ }
+{
+    let head = p.head;
+    let size = head.size;
+    let steps = p.steps;
+    let places = p.places;
+    let noted = p.noted;
+    let d = noted.conclusions;
+    judge(
+        front(text, size),
+        places,
+        words(firsts, steps),
+        seconds,
+        thirds,
+        d,
+    )
+}
+
+// The line for what was taken in: 11 for a text or steps that are too long, else the judgement on the grounds.
+pub fn reply<'a>(
+    p: Parser,
+    text: &'a [u8],
+    firsts: &'a [u64],
+    seconds: &'a [u64],
+    thirds: &'a [u64],
+) -> Line
+    ensures prints { λ r. ⌜ PrintsFor p (now (text .entry)) (now (firsts .entry)) (now (seconds .entry)) (now (thirds .entry)) r ⌝ }
+{
+    let head = p.head;
+    if MOST_TEXT < head.size {
+        return refusal_line(11, 0, 0);
+    }
+    if MOST_STEPS < p.steps {
+        return refusal_line(11, 0, 0);
+    }
+    let o = outcome(p, text, firsts, seconds, thirds);
+    outcome_line(o)
+}
