@@ -28,7 +28,8 @@ pub fn find(bytes: &[u8]) -> Found {
 }
 
 fn judge(bytes: &[u8]) -> Result<Option<Vec<usize>>, Refusal> {
-    Ok(first_breach(&rule(bytes)?))
+    let text = rule(bytes)?;
+    Ok(first_breach(&text))
 }
 
 /// A text with a rule. After the faulty lines 8, then 9.
