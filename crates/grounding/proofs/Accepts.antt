@@ -1,13 +1,14 @@
 -- The grounds of a breach are accepted, and are no more than is needed.
 --     grounds-follow, grounds-conclude   each step follows, and each literal is concluded
 --     grounds-accepted                   the verdict on them
+--     grounds-past, grounds-marks, grounds-fit, grounds-before   the marks, and the steps before the sweep
 --     grounds-few                        at most 7,082 steps
 --     grounds-used                       each is cited by a later step or a conclusion
 -- Assumes nothing.
 use mathlib.Core.Bool.{Bool, true, false, not}
 use mathlib.Core.List.{List, [], _∷_}
 use mathlib.Core.Path.{_≡_, refl, ap, sym, _∙_, subst}
-use mathlib.Core.Logic.{_⊎_, inl, inr, ⊎-elim}
+use mathlib.Core.Logic.{_⊎_, inl, inr}
 use Prim.Native.Nat.{ℕ, zero, suc, _+_, _*_, _≤_, _<_}
 use native.Mathlib.Omega.{arith}
 use lib.Dec.{eqb, ltb}
@@ -17,27 +18,25 @@ use lib.Seq.{take-length}
 use Rattle.meaning.specs.Context.{Term, Row, leftAt, rightAt, Context, equations, differences}
 use Rattle.meaning.specs.Equality.{EqualIn}
 use Rattle.meaning.specs.Rules.{Literal, equal, unequal, Clause, AllHold}
-use Rattle.meaning.specs.Grounds.{Step, step₀, stepAt, numberIn, Conclusion, conclusionFor, literalAt, Cites, ShowsApart, straight, crosswise, Concludes, instancesOf, Verified, accepted, accepts}
+use Rattle.meaning.specs.Grounds.{Step, stepAt, numberIn, Conclusion, conclusionFor, literalAt, Cites, straight, crosswise, Concludes, instancesOf, Verified, accepted, accepts}
 use Rattle.meaning.specs.Checking.{numbered}
-use Rattle.meaning.proofs.Logic.{false-true}
 use Rattle.meaning.proofs.Cited.{Ready}
 use Rattle.grounding.specs.Draft.{countIn, stepOf, stepIn, draft}
 use Rattle.grounding.specs.Classes.{labelIn, State}
-use Rattle.grounding.specs.Rounds.{started, stated, Rounds}
+use Rattle.grounding.specs.Rounds.{started, stated, rounds}
 use Rattle.grounding.specs.Concluding.{Ending, endAt}
-use Rattle.grounding.specs.Sweeping.{rank, fresh, renamed, swept, resaid, kept, marked, endsNoted}
+use Rattle.grounding.specs.Sweeping.{rank, fresh, renamed, swept, resaid, kept, endsNoted}
 use Rattle.grounding.specs.Grounds.{concluded, markedBy, staying, stepsWritten, endWritten, Used, by-step, by-end}
 use Rattle.grounding.proofs.Drafts.{Follow, length-draft}
 use Rattle.grounding.proofs.Builds.{all, term}
-use Rattle.grounding.proofs.Joins.{Sound}
 use Rattle.grounding.proofs.Payments.{paid-most}
 use Rattle.grounding.proofs.Outcomes.{Stated, stated-joined, inside}
-use Rattle.grounding.proofs.Passes.{Keys, Met, Rested, rounds-closed}
+use Rattle.grounding.proofs.Passes.{Keys, Rested, rounds-closed}
 use Rattle.grounding.proofs.Starts.{started-going}
 use Rattle.grounding.proofs.Complete.{equal-labels}
 use Rattle.grounding.proofs.Concludes.{Ended, ended-made}
-use Rattle.grounding.proofs.Sweeps.{Closed, swept-cites, swept-follow, swept-at, length-swept, fresh-kept, renamed-kind, number-now, rank-kept, rank-dropped}
-use Rattle.grounding.proofs.Marks.{draft-at, CitedBy, kindAt, citesAt, marked-closed, marked-why, marked-keeps, ends-long, ends-marked, ends-why}
+use Rattle.grounding.proofs.Sweeps.{Closed, swept-cites, swept-follow, swept-at, length-swept, fresh-kept, renamed-kind, number-now, rank-kept, rank-dropped, rank-most}
+use Rattle.grounding.proofs.Marks.{draft-at, CitedBy, kindAt, citesAt, marked-long, marked-closed, marked-why, marked-keeps, marked-other, ends-long, ends-other, ends-marked, ends-why}
 
 -- ---- no marks at the start
 
@@ -51,6 +50,13 @@ none-kept p e = go (ltb p 16385) refl
     go : (b : Bool) → ltb p 16385 ≡ b → ⊥
     go true f = zero-at (getD-replicate 16385 p 0 0 (ltb-true p 16385 f))
     go false f = zero-at (List·getD-eq-default (replicate 16385 0) 0 {n = p} (omega (arith, length-replicate {A = ℕ} 16385 0, ltb-false p 16385 f)))
+
+none-false : (p : ℕ) → kept (replicate 16385 0) p ≡ false
+none-false p = go (kept (replicate 16385 0) p) refl
+  where
+    go : (b : Bool) → kept (replicate 16385 0) p ≡ b → kept (replicate 16385 0) p ≡ false
+    go true e = absurd (none-kept p e)
+    go false e = e
 
 -- ---- ranks
 
@@ -79,15 +85,6 @@ rank-rises keep n (suc m) h = go (eqb n (suc m)) refl (keep (suc m)) refl (rank-
     go false e true f ih = omega (arith, rank-kept keep m f, ih (omega (arith, eqb-false n (suc m) e)))
     go false e false f ih = omega (arith, rank-dropped keep m f, ih (omega (arith, eqb-false n (suc m) e)))
 
-rank-most : (keep : ℕ → Bool) (n : ℕ) → rank keep n ≤ n
-unfolding rank
-rank-most keep zero = omega arith
-rank-most keep (suc n) = go (keep (suc n)) refl (rank-most keep n)
-  where
-    go : (b : Bool) → keep (suc n) ≡ b → rank keep n ≤ n → rank keep (suc n) ≤ suc n
-    go true e ih = omega (arith, rank-kept keep n e)
-    go false e ih = omega (arith, rank-dropped keep n e)
-
 -- ---- conclusions after the sweep
 
 resaid-concludes : (c : Context) (k : Clause) (a : List ℕ) (before after : List Step) (f : ℕ → ℕ) (d : Conclusion) (l : Literal)
@@ -100,9 +97,7 @@ resaid-concludes c k a before after f d (unequal p q) w (straight o s t x y z) =
 resaid-concludes c k a before after f d (unequal p q) w (crosswise o s t x y z) = crosswise o s t x (w _ _ _ (inl refl) y) (w _ _ _ (inr refl) z)
 
 module _ (c : Context) (k : Clause) (a : List ℕ) (ns : List ℕ) (ready : Ready c k a ns) (few : length (c .rows) + length (k .patterns) ≤ 319)
-    (ks : List Row) (keyed : Keys c k a ns ready few ks) (most : length (k .literals) ≤ 16) (hold : AllHold c (instancesOf c k a) (k .literals))
-    (final : State)
-    (rounds : Rounds (length (c .rows) + length (k .patterns)) ks (stated (length (c .rows) + length (k .patterns)) (numbered ns (equations c)) (started ns (length (c .rows) + length (k .patterns)))) final) where
+    (ks : List Row) (keyed : Keys c k a ns ready few ks) (most : length (k .literals) ≤ 16) (hold : AllHold c (instancesOf c k a) (k .literals)) where
   abbrev N : ℕ
   N = all c k a ns ready
 
@@ -114,6 +109,9 @@ module _ (c : Context) (k : Clause) (a : List ℕ) (ns : List ℕ) (ready : Read
 
   abbrev m : ℕ
   m = length (k .literals)
+
+  abbrev final : State
+  final = rounds N ks 8192 (stated N eqs (started ns N))
 
   abbrev ending : Ending
   ending = concluded final ns rows (numbered ns (differences c)) (k .literals)
@@ -131,7 +129,7 @@ module _ (c : Context) (k : Clause) (a : List ℕ) (ns : List ℕ) (ready : Read
   joins = stated-joined c k a ns ready few (started ns N) (started-going c k a ns ready few)
 
   rested : Rested c k a ns ready few ks keyed (stated N eqs (started ns N)) final
-  rested = rounds-closed c k a ns ready few ks keyed rounds (joins .going)
+  rested = rounds-closed c k a ns ready few ks keyed 8192 (stated N eqs (started ns N)) (joins .going) (omega arith)
 
   within : (i : ℕ) → i < length eqs → (leftAt eqs i < N) × (rightAt eqs i < N)
   within = inside c k a ns ready few
@@ -145,10 +143,10 @@ module _ (c : Context) (k : Clause) (a : List ℕ) (ns : List ℕ) (ready : Read
   bound : countIn (final .cells) ≤ 7018
   bound = paid-most N (labelIn (final .table)) (countIn (final .cells)) few (rested .going .paid)
 
-  ended′ : Ended c k a ns ready final (rested .going .sound) complete m ending
+  ended′ : Ended c k a ns ready few final (rested .going .sound) complete m ending
   unfolding concluded
   ended′ =
-      ended-made c k a ns ready final (rested .going .sound) complete hold most (omega (arith, bound)) m (omega arith) (replicate 64 0) (length-replicate {A = ℕ} 64 0)
+      ended-made c k a ns ready few final (rested .going .sound) complete hold most (omega (arith, bound)) m (omega arith) (replicate 64 0) (length-replicate {A = ℕ} 64 0)
 
   counted : count ≤ 7082
   counted = omega (arith, bound, ended′ .grown .more)
@@ -195,6 +193,24 @@ module _ (c : Context) (k : Clause) (a : List ℕ) (ns : List ℕ) (ready : Read
           go : (b : Bool) → ltb j 4 ≡ b → j < 4
           go true f = ltb-true j 4 f
           go false f = absurd (omega (arith, List·getD-eq-default (citesAt (ending .cells) i) 0 (ltb-false j 4 f)))
+
+  -- nothing past the last step stays
+  pub grounds-past : (i : ℕ) → count < i → keep i ≡ false
+  unfolding markedBy
+  grounds-past i h =
+      marked-other (ending .cells) count (omega (arith, counted)) first first-long i (omega arith)
+      ∙ ends-other count (omega (arith, counted)) (ending .ends) m (replicate 16385 0) (length-replicate {A = ℕ} 16385 0) i h
+      ∙ none-false i
+
+  pub grounds-marks : length (markedBy ending m) ≡ 16385
+  unfolding markedBy
+  grounds-marks = marked-long (ending .cells) count (omega (arith, counted)) first first-long
+
+  pub grounds-fit : count ≤ 16384
+  grounds-fit = omega (arith, counted)
+
+  pub grounds-before : Follow c k a steps
+  grounds-before = follow
 
   pub grounds-follow : Follow c k a (stepsWritten rows ending m)
   unfolding stepsWritten

@@ -13,13 +13,13 @@ use lib.Dec.{eqb, ltb}
 use borrow.Author.Tests.{eqb-true, eq-eqb, ltb-true, ltb-false, not-false}
 use lib.ListN.{length}
 use Rattle.meaning.specs.Context.{Term, Row, rowAt, termAt, leftAt, rightAt, Context, equations}
-use Rattle.meaning.specs.Equality.{Same, Equal, EqualIn, Stated, given, reflexive, symmetric, transitive}
+use Rattle.meaning.specs.Equality.{Same, Equal, EqualIn, given, symmetric, transitive}
 use Rattle.meaning.specs.Rules.{Clause, Below}
 use Rattle.meaning.specs.Formed.{Within}
-use Rattle.meaning.specs.Values.{numberAt, argsOf}
+use Rattle.meaning.specs.Values.{argsOf}
 use Rattle.meaning.specs.Grounds.{Step, Cites}
-use Rattle.meaning.specs.Checking.{entries, keyOf, numbered, firstFalse, Ends}
-use Rattle.meaning.proofs.Logic.{and-both, false-true}
+use Rattle.meaning.specs.Checking.{keyOf, numbered, firstFalse, Ends}
+use Rattle.meaning.proofs.Logic.{and-both}
 use Rattle.meaning.proofs.Lists.{sameList-self}
 use Rattle.meaning.proofs.Entries.{entry-row, length-entries}
 use Rattle.meaning.proofs.Cited.{Ready, length-numbered, numbered-left, numbered-right}

@@ -3,7 +3,7 @@
 --     said-made     a literal that holds
 --     ended-made    all of them
 -- Assumes nothing.
-use mathlib.Core.Bool.{Bool, true, false, _&&_, _||_, not}
+use mathlib.Core.Bool.{Bool, true, false, _||_, not}
 use mathlib.Core.List.{List, [], _∷_}
 use mathlib.Core.Path.{_≡_, refl, ap, sym, _∙_, subst}
 use mathlib.Core.Logic.{_⊎_, inl, inr}
@@ -16,21 +16,21 @@ use lib.Seq.{getD-set-same, getD-set-other}
 use Rattle.meaning.specs.Context.{Term, termAt, leftAt, rightAt, Context, differences}
 use Rattle.meaning.specs.Equality.{EqualIn, ApartIn}
 use Rattle.meaning.specs.Rules.{Literal, equal, unequal, Clause, Holds, AllHold}
-use Rattle.meaning.specs.Formed.{Names, NamesAll}
+use Rattle.meaning.specs.Formed.{Names}
 use Rattle.meaning.specs.Values.{numberAt}
 use Rattle.meaning.specs.Grounds.{Step, Conclusion, literalAt, PairAt, Cites, ShowsApart, straight, crosswise, Concludes, instancesOf, instanceAt}
-use Rattle.meaning.specs.Checking.{numbered, firstFalse, Ends}
+use Rattle.meaning.specs.Checking.{numbered, Ends}
 use Rattle.meaning.proofs.Logic.{and-true-left, and-true-right, and-both, or-cases, or-left, or-right}
 use Rattle.meaning.proofs.Entries.{entry-row, entry-instance}
 use Rattle.meaning.proofs.Cited.{Ready, length-numbered, numbered-left, numbered-right}
 use Rattle.meaning.proofs.Verdicts.{false-ends, named-at}
 use Rattle.grounding.specs.Draft.{countIn, Written}
 use Rattle.grounding.specs.Classes.{labelIn, State, upto, same}
-use Rattle.grounding.specs.Concluding.{matched, unmatched, placeOf, Said, saidApart, said, Ending, endOne, ended, endAt}
+use Rattle.grounding.specs.Concluding.{matchedAt, eitherAt, matched, unmatched, placeOf, Said, saidApart, saidEqual, saidDiffer, said, Ending, endStored, endSaid, endOne, ended, endAt}
 use Rattle.grounding.proofs.Builds.{all, term, steps, Shows, Grown, Made, grown-none, grown-then, grown-most, number-term, number-inside}
 use Rattle.grounding.proofs.Joins.{Sound, sound-grown, same-made}
 
-module _ (c : Context) (k : Clause) (a : List ℕ) (ns : List ℕ) (ready : Ready c k a ns) where
+module _ (c : Context) (k : Clause) (a : List ℕ) (ns : List ℕ) (ready : Ready c k a ns) (few : length (c .rows) + length (k .patterns) ≤ 319) where
   abbrev N : ℕ
   N = all c k a ns ready
 
@@ -101,7 +101,7 @@ module _ (c : Context) (k : Clause) (a : List ℕ) (ns : List ℕ) (ready : Read
           u = same cells table x p
 
           m : Made c k a ns ready cells u 2 x p
-          m = same-made c k a ns ready (record { cells = cells; table = table }) (sound-grown c k a ns ready state w cells i g) x p hx hp ox e (omega arith)
+          m = same-made c k a ns ready (record { cells = cells; table = table }) (sound-grown c k a ns ready state w cells i g) x p (omega arith) hx hp ox e (omega arith)
 
           v : Made c k a ns ready (u .cells) (same (u .cells) table y q) 2 y q
           v =
@@ -109,6 +109,7 @@ module _ (c : Context) (k : Clause) (a : List ℕ) (ns : List ℕ) (ready : Read
               (sound-grown c k a ns ready state w (u .cells) (i + 2) (grown-then c k a ns ready g (m .grown)))
               y
               q
+              (omega arith)
               hy
               hq
               oy
@@ -117,7 +118,7 @@ module _ (c : Context) (k : Clause) (a : List ℕ) (ns : List ℕ) (ready : Read
 
       equal-made : (p q : ℕ) → p < length (k .patterns) → q < length (k .patterns) → EqualIn c (instanceAt c k a p) (instanceAt c k a q)
           → Concluded cells (equal p q) (said cells table ns rows diffs (equal p q))
-      unfolding said
+      unfolding said saidEqual
       equal-made p q hp hq h =
           record {
             grown = grown-most c k a ns ready 4 (omega arith) (m .grown);
@@ -133,7 +134,7 @@ module _ (c : Context) (k : Clause) (a : List ℕ) (ns : List ℕ) (ready : Read
 
           m : Made c k a ns ready cells u 2 (side p) (side q)
           m =
-              same-made c k a ns ready (record { cells = cells; table = table }) (sound-grown c k a ns ready state w cells i g) (side p) (side q) (side-inside p hp) (side-inside q hq)
+              same-made c k a ns ready (record { cells = cells; table = table }) (sound-grown c k a ns ready state w cells i g) (side p) (side q) (omega (arith, side-inside p hp)) (side-inside p hp) (side-inside q hq)
               (side-own p hp)
               (complete (side p) (side q) (side-inside p hp) (side-inside q hq) e)
               (omega arith)
@@ -180,15 +181,15 @@ module _ (c : Context) (k : Clause) (a : List ℕ) (ns : List ℕ) (ready : Read
           (subst (λ (u : Term). EqualIn c u (term c k a ns ready x)) (sym (side-term p hp)) (subst (EqualIn c (instanceAt c k a p)) (sym e) d)))
 
       match : (x y j : ℕ) → label (left j) ≡ label x → label (right j) ≡ label y → matched table diffs x y j ≡ true
-      unfolding matched
+      unfolding matchedAt
       match x y j e f = and-both (eqb (label (left j)) (label x)) (eqb (label (right j)) (label y)) (eq-eqb _ _ e) (eq-eqb _ _ f)
 
       match-left : (x y j : ℕ) → matched table diffs x y j ≡ true → label (left j) ≡ label x
-      unfolding matched
+      unfolding matchedAt
       match-left x y j e = eqb-true _ _ (and-true-left (eqb (label (left j)) (label x)) (eqb (label (right j)) (label y)) e)
 
       match-right : (x y j : ℕ) → matched table diffs x y j ≡ true → label (right j) ≡ label y
-      unfolding matched
+      unfolding matchedAt
       match-right x y j e = eqb-true _ _ (and-true-right (eqb (label (left j)) (label x)) (eqb (label (right j)) (label y)) e)
 
       -- a difference that has the labels in either order
@@ -197,7 +198,7 @@ module _ (c : Context) (k : Clause) (a : List ℕ) (ns : List ℕ) (ready : Read
         has : (matched table diffs x y (placeOf table diffs x y) ≡ true) ⊎ (matched table diffs y x (placeOf table diffs x y) ≡ true)
 
       search-place : (x y j : ℕ) → j < length (differences c) → (matched table diffs x y j || matched table diffs y x j) ≡ true → Found x y
-      unfolding placeOf unmatched
+      unfolding placeOf unmatched eitherAt
       search-place x y j h e = record { inside = inside; has = or-cases (matched table diffs x y at) (matched table diffs y x at) here }
         where
           at : ℕ
@@ -250,7 +251,7 @@ module _ (c : Context) (k : Clause) (a : List ℕ) (ns : List ℕ) (ready : Read
         by-side r z hr col s e = subst (λ (t : Term). Cites c k a (steps c k a ns ready col) s t (term c k a ns ready z)) (side-term r hr) e
 
         unequal-made : ApartIn c (instanceAt c k a p) (instanceAt c k a q) → Concluded cells (unequal p q) (said cells table ns rows diffs (unequal p q))
-        unfolding said saidApart
+        unfolding said saidDiffer saidApart
         unequal-made d = go (matched table diffs x y at) refl (f .has)
           where
             f : Found x y
@@ -262,7 +263,7 @@ module _ (c : Context) (k : Clause) (a : List ℕ) (ns : List ℕ) (ready : Read
             go : (o : Bool) → matched table diffs x y at ≡ o → (matched table diffs x y at ≡ true) ⊎ (matched table diffs y x at ≡ true)
                 → Concluded cells (unequal p q) (said cells table ns rows diffs (unequal p q))
             go true e h =
-                rw (e, said)
+                rw (e, saidDiffer)
                 (record {
                   grown = m .0;
                   concludes = λ j. straight refl _ _ (pair b) (by-side p (left at) hp _ _ (m .1 .0)) (by-side q (right at) hq _ _ (m .1 .1));
@@ -278,7 +279,7 @@ module _ (c : Context) (k : Clause) (a : List ℕ) (ns : List ℕ) (ready : Read
                     0
             go false e (inl h) = absurd (let z : true ≡ false = sym h ∙ e in let o : _≡_ {A = ℕ} 0 1 = cc in omega arith)
             go false e (inr h) =
-                rw (e, said)
+                rw (e, saidDiffer)
                 (record {
                   grown = m .0;
                   concludes = λ j. crosswise refl _ _ (pair b) (by-side p (right at) hp _ _ (m .1 .0)) (by-side q (left at) hq _ _ (m .1 .1));
@@ -356,7 +357,7 @@ module _ (c : Context) (k : Clause) (a : List ℕ) (ns : List ℕ) (ready : Read
 
     module _ (hold : AllHold c (instancesOf c k a) (k .literals)) (most : length (k .literals) ≤ 16) (room : countIn (state .cells) + 64 ≤ 16384) where
       end-next : (n : ℕ) → n < length (k .literals) → (e : Ending) → Ended n e → Ended (suc n) (endOne table ns rows diffs (k .literals) n e)
-      unfolding endOne
+      unfolding endOne endSaid endStored
       end-next n h e w′ =
           record {
             grown = grown-most c k a ns ready (4 * suc n) (omega arith) (grown-then c k a ns ready (w′ .grown) (m .grown));

@@ -2,12 +2,12 @@
 --     mine   what `push`, `turned` and `linked` leave to show
 -- Assumes nothing.
 use mathlib.Core.List.{List}
-use mathlib.Core.Path.{_≡_, refl, ap, sym, _∙_, subst}
+use mathlib.Core.Path.{_≡_, refl, subst}
 use Prim.Native.Nat.{ℕ, _+_, _*_, _≤_, _<_}
 use lib.ListN.{set}
 use borrow.Author.Needs.{needs}
 use borrow.Author.Tests.{lt-ltb, le-ltb, eq-eqb, ne-eqb}
-use Rattle.grounding.specs.Draft.{countIn, Written, Wrote, laid, pushed, turned, linked}
+use Rattle.grounding.specs.Draft.{countIn, Wrote, laid, pushed, turned, linked}
 
 module _ (cells : List ℕ) (kind x y a b c d : ℕ) where
   pub push-room : {n : ℕ} → n ≡ countIn cells → n < 16384 → Wrote (set (laid cells (n * 7) kind x y a b c d) 0 (n + 1)) (n + 1) (pushed cells kind x y a b c d)

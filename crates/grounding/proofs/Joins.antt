@@ -11,8 +11,8 @@ use mathlib.Core.Logic.{_⊎_, inl, inr, ⊎-elim}
 use Prim.Native.Nat.{ℕ, zero, suc, _+_, _≤_, _<_}
 use native.Mathlib.Omega.{arith}
 use lib.Dec.{eqb, ltb, leb}
-use borrow.Author.Tests.{eqb-true, eqb-false, ltb-true, ltb-false, leb-true, leb-false}
-use lib.ListN.{length, getD, set, length-set}
+use borrow.Author.Tests.{eqb-true, eqb-false, ltb-true, ltb-false, lt-ltb, leb-true, leb-false}
+use lib.ListN.{length, set, length-set}
 use lib.Seq.{getD-set-same, getD-set-other}
 use Rattle.meaning.specs.Context.{Context}
 use Rattle.meaning.specs.Rules.{Clause}
@@ -20,7 +20,7 @@ use Rattle.meaning.specs.Values.{numberAt}
 use Rattle.meaning.proofs.Cited.{Ready}
 use Rattle.meaning.proofs.Progress.{move, move-cases}
 use Rattle.grounding.specs.Draft.{countIn, Written, turned, linked}
-use Rattle.grounding.specs.Classes.{labelIn, whyIn, State, upto, same, bridge, sizeIn, carry, carried, moved, joined}
+use Rattle.grounding.specs.Classes.{labelIn, whyIn, State, upto, ownStep, same, bridge, sizeIn, carry, carried, moved, joined}
 use Rattle.grounding.proofs.Builds.{all, Steps, Shows, Grown, Made, grown-none, grown-then, grown-most, turned-made, linked-made}
 
 pub size-most : (table : List ℕ) (p n : ℕ) → sizeIn table p n ≤ n
@@ -97,10 +97,10 @@ module _ (c : Context) (k : Clause) (a : List ℕ) (ns : List ℕ) (ready : Read
     abbrev why′ : ℕ → ℕ
     why′ x = whyIn (state .table) x
 
-    pub same-made : (x y : ℕ) → x < N → y < N → numberAt ns x ≡ x → label x ≡ label y → countIn cells + 2 ≤ 16384
+    pub same-made : (x y : ℕ) → x < 319 → x < N → y < N → numberAt ns x ≡ x → label x ≡ label y → countIn cells + 2 ≤ 16384
         → Made c k a ns ready cells (same cells table x y) 2 x y
-    unfolding same
-    same-made x y hx hy own e room = go (eqb x y) refl
+    unfolding same ownStep
+    same-made x y small hx hy own e room = go (eqb x y) refl
       where
         back : Written
         back = turned cells (why′ y) y (label y)
@@ -116,7 +116,7 @@ module _ (c : Context) (k : Clause) (a : List ℕ) (ns : List ℕ) (ready : Read
 
         go : (d : Bool) → eqb x y ≡ d → Made c k a ns ready cells (same cells table x y) 2 x y
         go true q =
-            rw (q, same)
+            rw (q, same, lt-ltb x 319 small, ownStep)
             (record {
               grown = grown-none c k a ns ready cells (w .good) 2;
               shows = subst (λ (i : ℕ). Show cells (x + 1) x i) (own ∙ eqb-true x y q) (w .own x hx);

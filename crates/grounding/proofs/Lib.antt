@@ -11,4 +11,12 @@ pub mod Concludes
 pub mod Sweeps
 pub mod Marks
 pub mod Accepts
+pub mod Ranks
+pub mod Emits
+pub mod Breaches
 mod Drafting
+mod Classing
+mod Rounding
+mod Endings
+mod Marking
+mod Making

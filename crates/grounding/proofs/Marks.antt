@@ -3,19 +3,18 @@
 --     marked-closed, marked-why    after all steps
 --     ends-marked, ends-why        after the conclusions
 -- Assumes nothing.
-use mathlib.Core.Bool.{Bool, true, false, not}
+use mathlib.Core.Bool.{Bool, true, false}
 use mathlib.Core.List.{List, [], _∷_, _++_}
 use mathlib.Core.Path.{_≡_, refl, ap, sym, _∙_, subst}
 use mathlib.Core.Logic.{_⊎_, inl, inr, ⊎-elim}
 use Prim.Native.Nat.{ℕ, zero, suc, _+_, _*_, _≤_, _<_}
 use native.Mathlib.Omega.{arith}
 use lib.Dec.{eqb, ltb, leb}
-use borrow.Author.Tests.{eqb-true, eqb-false, ne-eqb, ltb-true, ltb-false, lt-ltb, leb-true, leb-false, le-leb}
-use lib.ListN.{length, getD, set, length-set, length-replicate, getD-replicate, replicate, List·getD-append}
+use borrow.Author.Tests.{eqb-true, eqb-false, ltb-true, lt-ltb, leb-true, le-leb}
+use lib.ListN.{length, getD, set, length-set, List·getD-append}
 use lib.Seq.{getD-set-same, getD-set-other, getD-append-seam}
-use Rattle.meaning.specs.Grounds.{Step, step₀, stepAt, numberIn}
-use Rattle.meaning.proofs.Logic.{false-true}
-use Rattle.grounding.specs.Draft.{countIn, stepOf, stepIn, draftTo, draft}
+use Rattle.meaning.specs.Grounds.{step₀, stepAt}
+use Rattle.grounding.specs.Draft.{countIn, stepIn, draftTo, draft}
 use Rattle.grounding.specs.Sweeping.{kept, noted, notedFour, markOne, marked, endsNoted}
 use Rattle.grounding.proofs.Drafts.{length-draftTo}
 
@@ -214,7 +213,7 @@ module _ (cells : List ℕ) where
   marked-keeps (suc n) h marks l i e =
       marked-keeps n (omega arith) (markOne cells n marks) (one-long cells n (omega arith) marks l) i (one-keeps cells n (omega arith) marks l i e)
 
-  marked-other : (n : ℕ) → n ≤ 16384 → (marks : List ℕ) → length marks ≡ 16385 → (i : ℕ) → n ≤ i → kept (marked cells n marks) i ≡ kept marks i
+  pub marked-other : (n : ℕ) → n ≤ 16384 → (marks : List ℕ) → length marks ≡ 16385 → (i : ℕ) → n ≤ i → kept (marked cells n marks) i ≡ kept marks i
   unfolding marked
   marked-other zero h marks l i b = refl
   marked-other (suc n) h marks l i b =
@@ -280,6 +279,12 @@ module _ (limit : ℕ) (most : limit ≤ 16384) (ends : List ℕ) where
   ends-long zero marks l = l
   ends-long (suc n) marks l =
       list-long limit most (getD ends (n * 4) 0 ∷ getD ends (n * 4 + 1) 0 ∷ []) (endsNoted limit ends n marks) ∙ ends-long n marks l
+
+  pub ends-other : (n : ℕ) (marks : List ℕ) → length marks ≡ 16385 → (i : ℕ) → limit < i → kept (endsNoted limit ends n marks) i ≡ kept marks i
+  unfolding endsNoted
+  ends-other zero marks l i h = refl
+  ends-other (suc n) marks l i h =
+      list-other limit most (getD ends (n * 4) 0 ∷ getD ends (n * 4 + 1) 0 ∷ []) (endsNoted limit ends n marks) (ends-long n marks l) i h ∙ ends-other n marks l i h
 
   pub ends-marked : (n : ℕ) (marks : List ℕ) → length marks ≡ 16385 → (j : ℕ) → j < n → (i : ℕ) → i < 2
       → getD (getD ends (j * 4) 0 ∷ getD ends (j * 4 + 1) 0 ∷ []) i 0 ≤ limit

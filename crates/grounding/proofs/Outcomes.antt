@@ -5,33 +5,28 @@
 --     stated-joined                  the sides of each stated equation have one label
 -- Assumes nothing.
 use mathlib.Core.Bool.{Bool, true, false}
-use mathlib.Core.List.{List, [], _∷_, map}
+use mathlib.Core.List.{List}
 use mathlib.Core.Path.{_≡_, refl, ap, sym, _∙_, subst}
 use mathlib.Core.Logic.{_⊎_, inl, inr, ⊎-elim}
 use Prim.Native.Nat.{ℕ, zero, suc, _+_, _≤_, _<_}
 use native.Mathlib.Omega.{arith}
-use lib.Dec.{eqb, ltb}
-use borrow.Author.Tests.{eqb-true, eqb-false, ltb-true, ltb-false, lt-ltb, le-ltb}
-use lib.ListN.{length, getD, List·getD-map, length-map}
-use Rattle.meaning.specs.Context.{Term, Row, rowAt, termAt, leftAt, rightAt, Context, equations}
-use Rattle.meaning.specs.Rules.{Clause, Below}
-use Rattle.meaning.specs.Formed.{Within}
-use Rattle.meaning.specs.Values.{numberAt, argsOf}
-use Rattle.meaning.specs.ByTable.{sameList}
+use lib.Dec.{eqb}
+use borrow.Author.Tests.{eqb-true, eqb-false}
+use lib.ListN.{length}
+use Rattle.meaning.specs.Context.{Row, rowAt, termAt, leftAt, rightAt, Context, equations}
+use Rattle.meaning.specs.Rules.{Clause}
+use Rattle.meaning.specs.Values.{numberAt}
 use Rattle.meaning.specs.Grounds.{PairAt}
-use Rattle.meaning.specs.Checking.{keyOf, numbered}
-use Rattle.meaning.proofs.Logic.{and-true-left, and-true-right}
-use Rattle.meaning.proofs.Lists.{below-wider, below-at, sameList-true}
-use Rattle.meaning.proofs.Entries.{entry-row, length-entries, map-at}
+use Rattle.meaning.specs.Checking.{numbered}
+use Rattle.meaning.proofs.Entries.{entry-row}
 use Rattle.meaning.proofs.Cited.{Ready, length-numbered, numbered-left, numbered-right}
 use Rattle.meaning.proofs.Progress.{move, move-cases}
-use Rattle.meaning.proofs.Closing.{agree}
 use Rattle.grounding.specs.Draft.{countIn, Written, pushed}
-use Rattle.grounding.specs.Classes.{labelIn, State, upto, sizeIn, same, joined}
-use Rattle.grounding.specs.Rounds.{stateOne, stated, argued, congruence, paired, rowPassed, passed, Rounds, rest, again}
+use Rattle.grounding.specs.Classes.{labelIn, State, upto, joined}
+use Rattle.grounding.specs.Rounds.{statedPair, stateOne, stated}
 use Rattle.grounding.proofs.Drafts.{count-pushed}
-use Rattle.grounding.proofs.Builds.{all, table, term, Shows, Grown, Made, grown-none, grown-then, grown-most, number-term, number-inside, ordered, stated-made, congruent-made}
-use Rattle.grounding.proofs.Joins.{Sound, sound-grown, same-made, Joined, joined-sound}
+use Rattle.grounding.proofs.Builds.{all, table, term, Made, grown-most, number-term, number-inside, ordered, stated-made}
+use Rattle.grounding.proofs.Joins.{Sound, sound-grown, Joined, joined-sound}
 use Rattle.grounding.proofs.Payments.{Paid, paid-most, paid-join, size-in}
 
 module _ (c : Context) (k : Clause) (a : List ℕ) (ns : List ℕ) (ready : Ready c k a ns) (few : length (c .rows) + length (k .patterns) ≤ 319) where
@@ -172,7 +167,7 @@ module _ (c : Context) (k : Clause) (a : List ℕ) (ns : List ℕ) (ready : Read
       number-term c k a ns ready x (omega arith) ∙ entry-row (c .rows) a (ready .formed .fit .ordered) (k .patterns) (ready .chosen) x h
 
   stateOne-outcome : (i : ℕ) → i < length eqs → (state : State) → Going state → United (λ s. Unit {0}) state (leftAt eqs i) (rightAt eqs i) (stateOne N eqs i state)
-  unfolding stateOne
+  unfolding stateOne statedPair
   stateOne-outcome i h state g = go (eqb (labelIn (state .table) l) (labelIn (state .table) r)) refl
     where
       l : ℕ
@@ -219,9 +214,9 @@ module _ (c : Context) (k : Clause) (a : List ℕ) (ns : List ℕ) (ready : Read
       m = stated-made c k a ns ready (state .cells) (g .sound .good) room l r hl hr (i + 1) pair
 
       go : (b : Bool) → eqb (labelIn (state .table) l) (labelIn (state .table) r) ≡ b → United (λ s. Unit {0}) state l r (stateOne N eqs i state)
-      go true e = rw (e, stateOne) (record { outcome = unchanged state g tt; one = eqb-true _ _ e })
+      go true e = rw (e, statedPair) (record { outcome = unchanged state g tt; one = eqb-true _ _ e })
       go false e =
-          rw (e, stateOne)
+          rw (e, statedPair)
           (join-outcome state g l r hl hr (eqb-false _ _ e) w
           (record { grown = grown-most c k a ns ready 9 (omega arith) (m .grown); shows = m .shows })
           (omega (arith, count-pushed (length (c .rows)) (state .cells) 1 l r (i + 1) 0 0 0 (g .sound .good .long) room)))

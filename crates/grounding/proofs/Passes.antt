@@ -23,8 +23,8 @@ use Rattle.meaning.proofs.Entries.{length-entries, length-map, map-at}
 use Rattle.meaning.proofs.Cited.{Ready}
 use Rattle.meaning.proofs.Closing.{agree}
 use Rattle.grounding.specs.Draft.{countIn, Written, pushed}
-use Rattle.grounding.specs.Classes.{labelIn, State, same, joined}
-use Rattle.grounding.specs.Rounds.{argued, congruence, paired, rowPassed, passed, Rounds, rest, again}
+use Rattle.grounding.specs.Classes.{labelIn, State, same}
+use Rattle.grounding.specs.Rounds.{argued, congruentBy, congruence, united, pairedApart, paired, rowPassed, passed, rounds}
 use Rattle.grounding.proofs.Drafts.{count-pushed}
 use Rattle.grounding.proofs.Builds.{all, table, Shows, Grown, Made, grown-none, grown-then, grown-most, number-inside, ordered, congruent-made}
 use Rattle.grounding.proofs.Joins.{Sound, sound-grown, same-made}
@@ -85,7 +85,7 @@ module _ (c : Context) (k : Clause) (a : List ℕ) (ns : List ℕ) (ready : Read
         go true e =
             let l : i < length (keyArgs x) = ltb-true i (length (keyArgs x)) e in
             let m : Made c k a ns ready cells (same cells (state .table) (getD (keyArgs x) i 0) (getD (keyArgs y) i 0)) 2 (getD (keyArgs x) i 0) (getD (keyArgs y) i 0) =
-            same-made c k a ns ready middle (sound-grown c k a ns ready state w cells j g) (getD (keyArgs x) i 0) (getD (keyArgs y) i 0) (arg-inside x hx i l)
+            same-made c k a ns ready middle (sound-grown c k a ns ready state w cells j g) (getD (keyArgs x) i 0) (getD (keyArgs y) i 0) (omega (arith, arg-inside x hx i l)) (arg-inside x hx i l)
             (arg-inside y hy i (omega arith))
             (arg-own x hx i l)
             (alike i l)
@@ -98,7 +98,7 @@ module _ (c : Context) (k : Clause) (a : List ℕ) (ns : List ℕ) (ready : Read
     congruence-made : entry x .symbol ≡ entry y .symbol → length (keyArgs x) ≤ 4 → countIn (state .cells) + 9 ≤ 16384
         → Made c k a ns ready (state .cells) (congruence (state .cells) (state .table) (keyArgs x) (keyArgs y) x y) 9 x y
         × (countIn (state .cells) < countIn (congruence (state .cells) (state .table) (keyArgs x) (keyArgs y) x y .cells))
-    unfolding congruence keyOf
+    unfolding congruence congruentBy keyOf
     congruence-made e four room = (
       record { grown = grown-most c k a ns ready 9 (omega arith) (grown-then c k a ns ready g₃ (m .grown)); shows = m .shows },
       omega (arith, g₃ .least, count-pushed (length (c .rows)) (w₃ .cells) 5 x y (w₀ .number) (w₁ .number) (w₂ .number) (w₃ .number) (g₃ .good .long) (omega (arith, g₃ .more))),
@@ -165,15 +165,15 @@ module _ (c : Context) (k : Clause) (a : List ℕ) (ns : List ℕ) (ready : Read
       pub met : agree ks (state .table) x y ≡ true → labelIn (state .table) x ≡ labelIn (state .table) y
 
     paired-outcome : (x y : ℕ) → x < N → y < N → (state : State) → Going c k a ns ready few state → Outcome c k a ns ready few (Met x y) state (paired N ks x y state)
-    unfolding paired agree keyOf
+    unfolding paired pairedApart united agree keyOf
     paired-outcome x y hx hy state g = go (eqb (labelIn (state .table) x) (labelIn (state .table) y)) refl (agree ks (state .table) x y) refl
       where
         go : (b : Bool) → eqb (labelIn (state .table) x) (labelIn (state .table) y) ≡ b → (d : Bool) → agree ks (state .table) x y ≡ d
             → Outcome c k a ns ready few (Met x y) state (paired N ks x y state)
         go true e d f = rw (e, paired) (unchanged c k a ns ready few state g (record { met = λ z. eqb-true _ _ e }))
-        go false e false f = rw (e, paired, f) (unchanged c k a ns ready few state g (record { met = λ z. false-true z f }))
+        go false e false f = rw (e, paired, f, pairedApart) (unchanged c k a ns ready few state g (record { met = λ z. false-true z f }))
         go false e true f =
-            rw (e, paired, f, keyed .keys x hx, keyed .keys y hy)
+            rw (e, paired, f, pairedApart, keyed .keys x hx, keyed .keys y hy)
             (join-outcome c k a ns ready few state g x y hx hy (eqb-false _ _ e) (congruence (state .cells) (state .table) (keyArgs x) (keyArgs y) x y) (made .0) (made .1)
             .outcome)
           where
@@ -218,15 +218,27 @@ module _ (c : Context) (k : Clause) (a : List ℕ) (ns : List ℕ) (ready : Read
       pub coarser : (x y : ℕ) → x < N → y < N → labelIn (before .table) x ≡ labelIn (before .table) y → labelIn (after .table) x ≡ labelIn (after .table) y
       pub closed : (x : ℕ) → x < N → (y : ℕ) → y < x → Met x y after
 
-    pub rounds-closed : {before after : State} → Rounds N ks before after → Going c k a ns ready few before → Rested before after
-    rounds-closed (rest state e) g =
-        let o : Outcome c k a ns ready few (λ s. (x : ℕ) → x < N → (y : ℕ) → y < x → Met x y s) state (passed N ks state) = passed-outcome state g in
-        record {
-          going = o .going;
-          coarser = o .coarser;
-          closed = ⊎-elim (λ p. subst (λ (s : State). (x : ℕ) → x < N → (y : ℕ) → y < x → Met x y s) (sym (p .0)) (p .1)) (λ p. absurd (omega arith)) (o .did);
-        }
-    rounds-closed (again state after d r) g =
-        let o : Outcome c k a ns ready few (λ s. (x : ℕ) → x < N → (y : ℕ) → y < x → Met x y s) state (passed N ks state) = passed-outcome state g in
-        let t : Rested (passed N ks state) after = rounds-closed r (o .going) in
-        record { going = t .going; coarser = λ x y hx hy e. t .coarser x y hx hy (o .coarser x y hx hy e); closed = t .closed }
+    pub rounds-closed : (left : ℕ) (state : State) → Going c k a ns ready few state → 7018 < left + countIn (state .cells) → Rested state (rounds N ks left state)
+    unfolding rounds
+    rounds-closed zero state g h = absurd (omega (arith, paid-most N (labelIn (state .table)) (countIn (state .cells)) few (g .paid)))
+    rounds-closed (suc left) state g h =
+        go (eqb (countIn (passed N ks state .cells)) (countIn (state .cells))) refl (passed-outcome state g) (rounds-closed left (passed N ks state))
+      where
+        go : (b : Bool) → eqb (countIn (passed N ks state .cells)) (countIn (state .cells)) ≡ b
+            → Outcome c k a ns ready few (λ s. (x : ℕ) → x < N → (y : ℕ) → y < x → Met x y s) state (passed N ks state)
+            → (Going c k a ns ready few (passed N ks state) → 7018 < left + countIn (passed N ks state .cells) → Rested (passed N ks state) (rounds N ks left (passed N ks state)))
+            → Rested state (rounds N ks (suc left) state)
+        go true e o ih =
+            rw (e, rounds)
+            (record {
+              going = o .going;
+              coarser = o .coarser;
+              closed = ⊎-elim (λ p. subst (λ (s : State). (x : ℕ) → x < N → (y : ℕ) → y < x → Met x y s) (sym (p .0)) (p .1))
+                  (λ p. absurd (omega (arith, eqb-true (countIn (passed N ks state .cells)) (countIn (state .cells)) e)))
+                  (o .did);
+            })
+        go false e o ih =
+            let t : Rested (passed N ks state) (rounds N ks left (passed N ks state)) =
+            ih (o .going) (omega (arith, o .least, eqb-false (countIn (passed N ks state .cells)) (countIn (state .cells)) e)) in
+            rw (e, rounds)
+            (record { going = t .going; coarser = λ x y hx hy q. t .coarser x y hx hy (o .coarser x y hx hy q); closed = t .closed })

@@ -2,16 +2,15 @@
 --     started-going   and all that holds between the passes holds
 -- Assumes nothing.
 use mathlib.Core.Bool.{Bool, true, false}
-use mathlib.Core.List.{List, []}
-use mathlib.Core.Path.{_≡_, refl, ap, sym, _∙_, subst}
+use mathlib.Core.List.{List}
+use mathlib.Core.Path.{_≡_, refl, ap, sym, _∙_}
 use Prim.Native.Nat.{ℕ, zero, suc, _+_, _≤_, _<_}
 use native.Mathlib.Omega.{arith}
 use lib.Dec.{eqb}
 use borrow.Author.Tests.{eqb-true, eqb-false}
-use lib.ListN.{length, getD, length-replicate, getD-replicate}
+use lib.ListN.{length, length-replicate, getD-replicate}
 use Rattle.meaning.specs.Context.{Context}
 use Rattle.meaning.specs.Rules.{Clause}
-use Rattle.meaning.specs.Grounds.{Step}
 use Rattle.meaning.specs.Values.{numberAt}
 use Rattle.meaning.proofs.Cited.{Ready}
 use Rattle.grounding.specs.Draft.{countIn, Written, pushed}

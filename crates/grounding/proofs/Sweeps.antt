@@ -6,9 +6,9 @@
 use mathlib.Core.Bool.{Bool, true, false}
 use mathlib.Core.List.{List, [], _∷_, _++_, map}
 use mathlib.Core.Path.{_≡_, refl, ap, sym, _∙_, subst}
-use Prim.Native.Nat.{ℕ, zero, suc, _+_, _≤_, _<_}
+use Prim.Native.Nat.{ℕ, zero, suc, _≤_, _<_}
 use native.Mathlib.Omega.{arith}
-use lib.Dec.{eqb, ltb}
+use lib.Dec.{eqb}
 use borrow.Author.Tests.{eqb-true, eqb-false, lt-ltb, le-ltb}
 use lib.ListN.{length, getD, take, length-take, List·getD-append, List·getD-map}
 use lib.Seq.{getD-take, getD-append-seam}
@@ -40,6 +40,15 @@ module _ (keep : ℕ → Bool) where
   unfolding rank
   rank-dropped n e = rw (e, rank)
 
+  pub rank-most : (n : ℕ) → rank keep n ≤ n
+  unfolding rank
+  rank-most zero = omega arith
+  rank-most (suc n) = go (keep (suc n)) refl (rank-most n)
+    where
+      go : (b : Bool) → keep (suc n) ≡ b → rank keep n ≤ n → rank keep (suc n) ≤ suc n
+      go true e ih = omega (arith, rank-kept n e)
+      go false e ih = omega (arith, rank-dropped n e)
+
   pub fresh-kept : (n : ℕ) → keep (suc n) ≡ true → fresh keep (suc n) ≡ suc (rank keep n)
   unfolding fresh
   fresh-kept n e = rw (e, fresh) (omega arith)
@@ -49,11 +58,11 @@ module _ (keep : ℕ → Bool) where
   fresh-none = refl
 
   module _ (steps : List Step) where
-    swept-kept : (n : ℕ) → keep (suc n) ≡ true → swept keep steps (suc n) ≡ swept keep steps n ++ (renamed (fresh keep) (stepAt steps n) ∷ [])
+    pub swept-kept : (n : ℕ) → keep (suc n) ≡ true → swept keep steps (suc n) ≡ swept keep steps n ++ (renamed (fresh keep) (stepAt steps n) ∷ [])
     unfolding swept
     swept-kept n e = rw (e, swept)
 
-    swept-dropped : (n : ℕ) → keep (suc n) ≡ false → swept keep steps (suc n) ≡ swept keep steps n
+    pub swept-dropped : (n : ℕ) → keep (suc n) ≡ false → swept keep steps (suc n) ≡ swept keep steps n
     unfolding swept
     swept-dropped n e = rw (e, swept)
 

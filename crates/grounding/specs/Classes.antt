@@ -1,6 +1,7 @@
 -- Classes of entries on the way, with a step for each entry that it is equal to its label, and how two classes become one.
 --     labelIn, whyIn      an entry's label, and the number of the step that it is equal to it
---     State               steps and classes
+--     State, Left         steps and classes; what a function has left of them
+--     ownStep             the number of an entry's own step
 --     same                a step for two entries with one label
 --     bridge              a step for the labels of two entries that a step says are equal
 --     sizeIn              how many entries have a label
@@ -9,8 +10,9 @@
 -- Assumes nothing.
 use mathlib.Core.Bool.{true, false}
 use mathlib.Core.List.{List}
-use Prim.Native.Nat.{ℕ, zero, suc, _+_}
-use lib.Dec.{eqb, leb}
+use mathlib.Core.Path.{_≡_}
+use Prim.Native.Nat.{ℕ, zero, suc, _+_, _≤_}
+use lib.Dec.{eqb, ltb, leb}
 use lib.ListN.{getD, set}
 use Rattle.grounding.specs.Draft.{Written, turned, linked}
 
@@ -24,16 +26,24 @@ pub record State : Type 0 where
   pub cells : List ℕ
   pub table : List ℕ
 
+-- what a function has left of a state
+pub record Left (cells table : List ℕ) (state : State) : Type 0 where
+  pub column : cells ≡ state .cells
+  pub classes : table ≡ state .table
+
 -- n times, by the number of times before
 unfoldable pub upto : {A : Type 0} → ℕ → (ℕ → A → A) → A → A
 upto zero step s = s
 upto (suc n) step s = step n (upto n step s)
 
+unfoldable pub ownStep : ℕ → ℕ
+ownStep x = elim (ltb x 319) [ true ↦ x + 1 | false ↦ 0 ]
+
 -- x = y, where the two have one label; an entry is equal to itself by its own step
 unfoldable pub same : List ℕ → List ℕ → ℕ → ℕ → Written
 same cells table x y =
     elim (eqb x y) [
-      | true ↦ record { cells = cells; number = x + 1 }
+      | true ↦ record { cells = cells; number = ownStep x }
       | false ↦ let back : Written = turned cells (whyIn table y) y (labelIn table y) in
           linked (back .cells) (whyIn table x) (back .number) x (labelIn table x) y
     ]
@@ -44,6 +54,14 @@ bridge cells table s x y =
     let back : Written = turned cells (whyIn table x) x (labelIn table x) in
     let over : Written = linked (back .cells) (back .number) s (labelIn table x) x y in
     linked (over .cells) (over .number) (whyIn table y) (labelIn table x) y (labelIn table y)
+
+-- 1 for a label, and 0 for any other
+unfoldable pub hitOf : ℕ → ℕ → ℕ
+hitOf x p = elim (eqb x p) [ true ↦ 1 | false ↦ 0 ]
+
+pub record Hit (x p r : ℕ) : Type 0 where
+  pub value : r ≡ hitOf x p
+  pub most : r ≤ 1
 
 -- among the first n entries
 unfoldable pub sizeIn : List ℕ → ℕ → ℕ → ℕ

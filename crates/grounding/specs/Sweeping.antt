@@ -5,13 +5,17 @@
 --     markOne, marked    what a step that stays cites stays; from the last step to the first
 --     endsNoted          what the conclusions cite stays
 --     kept               whether a number is marked
+--     ranked, newOf      the marks of the steps that stay become their new numbers; a number's new one
+--     wordOf, twoIn      a step's sides in a word; two numbers in a word
+--     emitted            the steps that stay, in three columns of words
 -- Assumes nothing.
 use mathlib.Core.Bool.{Bool, true, false, not}
 use mathlib.Core.List.{List, [], _∷_, _++_, map}
-use Prim.Native.Nat.{ℕ, zero, suc, _+_, _*_}
+use Prim.Native.Nat.{ℕ, zero, suc, _+_, _-_, _*_}
 use lib.Dec.{eqb, ltb, leb}
 use lib.ListN.{getD, set}
 use Rattle.meaning.specs.Grounds.{Step, Conclusion, stepAt}
+use Rattle.grounding.specs.Draft.{refOf}
 
 module _ (keep : ℕ → Bool) where
   unfoldable pub rank : ℕ → ℕ
@@ -71,3 +75,64 @@ unfoldable pub endsNoted : ℕ → List ℕ → ℕ → List ℕ → List ℕ
 endsNoted limit ends zero marks = marks
 endsNoted limit ends (suc n) marks =
     noted limit (getD ends (n * 4 + 1) 0) (noted limit (getD ends (n * 4) 0) (endsNoted limit ends n marks))
+
+-- ---- new numbers
+
+pub record Ranked : Type 0 where
+  pub marks : List ℕ
+  pub next : ℕ
+
+-- step i, counted from 0, gets the next number where it stays
+unfoldable pub rankOne : ℕ → Ranked → Ranked
+rankOne i r =
+    elim (kept (r .marks) (i + 1)) [ true ↦ record { marks = set (r .marks) (i + 1) (r .next + 1); next = r .next + 1 } | false ↦ r ]
+
+-- the first n steps
+unfoldable pub ranked : List ℕ → ℕ → Ranked
+ranked marks zero = record { marks = marks; next = 0 }
+ranked marks (suc n) = rankOne n (ranked marks n)
+
+-- step 0 is none
+unfoldable pub newOf : List ℕ → ℕ → ℕ
+newOf marks r = elim (eqb r 0) [ true ↦ 0 | false ↦ getD marks r 0 ]
+
+-- ---- words of 64 bits
+
+abbrev pub wordOf : ℕ → ℕ → ℕ → ℕ → ℕ → ℕ
+wordOf kind mark row mark′ row′ = kind * 281474976710656 + mark * 1099511627776 + row * 16777216 + mark′ * 65536 + row′
+
+abbrev pub twoIn : ℕ → ℕ → ℕ
+twoIn a b = a * 4294967296 + b
+
+-- what a step's number becomes; kinds 1 and 2 cite no step
+unfoldable pub newIn : List ℕ → ℕ → ℕ → ℕ
+newIn news kind r = elim (ltb 2 kind) [ true ↦ newOf news r | false ↦ r ]
+
+abbrev pub wordIn : ℕ → ℕ → ℕ → ℕ → ℕ
+wordIn rows kind x y = wordOf kind (refOf rows x .mark) (refOf rows x .row) (refOf rows y .mark) (refOf rows y .row)
+
+abbrev pub numbersWord : List ℕ → ℕ → ℕ → ℕ → ℕ
+numbersWord news kind a b = twoIn (newIn news kind a) (newIn news kind b)
+
+pub record Words : Type 0 where
+  pub firsts : List ℕ
+  pub seconds : List ℕ
+  pub thirds : List ℕ
+
+-- step i, counted from 0, where it has a new number
+unfoldable pub emitOne : ℕ → List ℕ → List ℕ → ℕ → Words → Words
+emitOne rows cells news i w =
+    elim (eqb (getD news (i + 1) 0) 0) [
+      | true ↦ w
+      | false ↦ let kind : ℕ = getD cells (i * 7 + 1) 0 in
+          record {
+            firsts = set (w .firsts) (getD news (i + 1) 0 - 1) (wordIn rows kind (getD cells (i * 7 + 2) 0) (getD cells (i * 7 + 3) 0));
+            seconds = set (w .seconds) (getD news (i + 1) 0 - 1) (numbersWord news kind (getD cells (i * 7 + 4) 0) (getD cells (i * 7 + 5) 0));
+            thirds = set (w .thirds) (getD news (i + 1) 0 - 1) (numbersWord news kind (getD cells (i * 7 + 6) 0) (getD cells (i * 7 + 7) 0));
+          }
+    ]
+
+-- the first n steps
+unfoldable pub emitted : ℕ → List ℕ → List ℕ → ℕ → Words → Words
+emitted rows cells news zero w = w
+emitted rows cells news (suc n) w = emitOne rows cells news n (emitted rows cells news n w)

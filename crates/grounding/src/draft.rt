@@ -8,6 +8,12 @@ pub fn wide(x: u16) -> usize
     x as usize
 }
 
+pub fn wide8(x: u8) -> usize
+    ensures { λ r. ⌜ r ≡ x ⌝ }
+{
+    x as usize
+}
+
 // The number of one step more, or 0 where there is no room.
 pub fn push(
     cells: &mut [u16; 114689],
