@@ -2,6 +2,7 @@
 --     Search, Right          a search for the first breach by a table; it gives what the definitions give
 --     lacking, no-lacking    none at once where a symbol of the clause has no context row: f(x) = f(b) over the rows a, b
 --     byRow, no-by-row       values numbered by row, where an equal row is looked for among the rows before it: x, y, f(y), f(x), f(x) over the row a
+--     last, no-last          the rows tried from the last to the first: x = x over the rows a, b
 -- Assumes nothing.
 use mathlib.Core.Bool.{Bool, true, false, _||_}
 use mathlib.Core.List.{List, [], _∷_, _++_}
@@ -111,4 +112,32 @@ pub no-by-row : Right byRow → ⊥
 no-by-row r =
     let e : nothing ≡ found (0 ∷ 0 ∷ []) = sym twice-missed ∙ r (stating (constant 1 ∷ [])) (0 ∷ []) twice ∙ twice-found in
     let z : _≡_ {A = ℕ} 0 1 = cc in
+    omega arith
+
+-- ---- the last breach
+
+unfoldable pub falling : List ℕ → List ℕ
+falling [] = []
+falling (x ∷ l) = falling l ++ (x ∷ [])
+
+unfoldable pub last : Search
+last c table k =
+    seek (breaks (apartBy (repAt table) (differences c)) (c .rows) (repAt table) 65536 k) (falling (lowest (repAt table) 0 (length (c .rows)))) (variables (k .patterns)) []
+
+-- x = x
+abbrev itself : Clause
+itself = record { patterns = variable 0 ∷ []; literals = equal 0 0 ∷ [] }
+
+itself-first : foundBy (stating (constant 1 ∷ constant 2 ∷ [])) (0 ∷ 1 ∷ []) itself ≡ found (0 ∷ [])
+unfolding firstBy seek tryAll orElse lowest breaks allHoldBy holdsBy numbers stages number step numberOf met isOver held rowsAt levels levelsFrom levelOf highest apartBy sameList variables differencesOf
+itself-first = refl
+
+itself-last : last (stating (constant 1 ∷ constant 2 ∷ [])) (0 ∷ 1 ∷ []) itself ≡ found (1 ∷ [])
+unfolding last falling seek tryAll orElse lowest breaks allHoldBy holdsBy numbers stages number step numberOf met isOver held rowsAt levels levelsFrom levelOf highest apartBy sameList variables differencesOf
+itself-last = refl
+
+pub no-last : Right last → ⊥
+no-last r =
+    let e : found (1 ∷ []) ≡ found (0 ∷ []) = sym itself-last ∙ r (stating (constant 1 ∷ constant 2 ∷ [])) (0 ∷ 1 ∷ []) itself ∙ itself-first in
+    let z : _≡_ {A = ℕ} 1 0 = cc in
     omega arith
