@@ -80,7 +80,7 @@ pub fn contradiction(c: ContextColumns, table: [u16; 255]) -> Contradiction
 }
 
 // The first breach by a table.
-fn hunt(c: ContextColumns, table: [u16; 255], k: ClauseColumns) -> search::Reply
+pub fn hunt(c: ContextColumns, table: [u16; 255], k: ClauseColumns) -> search::Reply
     requires { ⌜ Asks c k ⌝ }
     ensures { λ r. ⌜ r ≡ answerOf (foundBy (said c) table (asked k)) ⌝ }
 {

@@ -14,9 +14,3 @@ pub mod Accepts
 pub mod Ranks
 pub mod Emits
 pub mod Breaches
-mod Drafting
-mod Classing
-mod Rounding
-mod Endings
-mod Marking
-mod Making

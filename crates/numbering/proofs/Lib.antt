@@ -1,4 +1,5 @@
--- The root of the laws: keys, the table of entries, and one entry more.
+-- The root of the laws: keys, the table of entries, one entry more, and stated pairs.
 pub mod Keying
 pub mod Filling
 pub mod Extending
+pub mod Pairing

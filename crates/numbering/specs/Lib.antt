@@ -1,3 +1,4 @@
 -- The root of the definitions.
 pub mod Keys
 pub mod Entries
+pub mod Pairs

@@ -31,7 +31,8 @@ use Rattle.numbering.specs.Entries.{Filled, Fillable}
 use Rattle.numbering.specs.declared.table.Table.{Table}
 use Rattle.numbering.proofs.Keying.{length-rows, rows-at}
 use Rattle.numbering.proofs.Extending.{length-patterns}
-use Rattle.verifier.specs.Tables.{pairsOf, Held, apartWords, concludesWords, concludedWords}
+use Rattle.numbering.specs.Pairs.{pairsOf, Held}
+use Rattle.verifier.specs.Tables.{apartWords, concludesWords, concludedWords}
 use Rattle.verifier.specs.Claims.{WellFormed, Chosen, Long}
 use Rattle.verifier.proofs.Following.{cited-agree, sides-agree}
 use Rattle.verifier.proofs.Running.{steps-shortest}

@@ -1,10 +1,9 @@
--- The root of the laws: numbers of references and steps cited; the kinds of step; loops; assignments; stated pairs; conclusions; the verdict; and that an answer is one.
+-- The root of the laws: numbers of references and steps cited; the kinds of step; loops; assignments; conclusions; the verdict; and that an answer is one.
 pub mod Numbers
 pub mod Ways
 pub mod Following
 pub mod Running
 pub mod Assigning
-pub mod Pairing
 pub mod Concluding
 pub mod Judging
 pub mod Answers

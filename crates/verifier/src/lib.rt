@@ -1,16 +1,15 @@
 // Grounds for a breach, judged: whether the assignment names context rows, each step follows from earlier ones, and each literal is concluded.
 mod assignment;
 mod literals;
-mod pairs;
 mod sides;
 mod steps;
 
 use assignment::first_unassigned;
 use assignment::variables;
 use literals::first_open;
+use numbering::pairs::stated;
 use numbering::table::Table;
 use numbering::table::fill;
-use pairs::stated;
 use steps::first_bad;
 use steps::shortest;
 ghost use mathlib.Core.Bool.{true, false};
@@ -22,7 +21,8 @@ ghost use Rattle.meaning.specs.Grounds.{Verified};
 ghost use Rattle.meaning.specs.Checking.{entries, numbered, followsBy, Ends};
 ghost use Rattle.meaning.specs.GroundColumns.{stepsFrom, sidesOf, conclusionsFrom};
 ghost use Rattle.numbering.specs.Keys.{Keyed};
-ghost use Rattle.verifier.specs.Tables.{pairsOf, concludedWords};
+ghost use Rattle.numbering.specs.Pairs.{pairsOf};
+ghost use Rattle.verifier.specs.Tables.{concludedWords};
 ghost use Rattle.numbering.specs.Entries.{Filled};
 ghost use Rattle.verifier.specs.Claims.{WellFormed, Chosen, Long, verdictOf};
 
