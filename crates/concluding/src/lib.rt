@@ -6,8 +6,9 @@ use settling::rounds::same_label;
 ghost use mathlib.Core.Path.{_≡_};
 ghost use Prim.Native.Nat.{_+_, _≤_, _<_};
 ghost use Rattle.meaning.specs.Values.{numberAt};
+ghost use Rattle.meaning.specs.Columns.{literalsFrom};
 ghost use Rattle.meaning.specs.GroundColumns.{pairsFrom};
-ghost use Rattle.grounding.specs.Concluding.{matchedAt, eitherAt, Found, sideAt, saidApart, saidEqual, saidDiffer, saidBy, endStored, Leaves, endSaid};
+ghost use Rattle.grounding.specs.Concluding.{matchedAt, eitherAt, Found, sideAt, saidApart, saidEqual, saidDiffer, saidBy, endStored, Leaves, endSaid, endOne, ended};
 
 // Whether the entries l and r have the labels of x and y.
 fn matches(table: &[u16; 638], l: u16, r: u16, x: u16, y: u16) -> bool
@@ -136,7 +137,7 @@ fn end_differ<'a>(
 }
 
 // Conclusion j, for a literal of one kind or the other.
-pub fn end_literal<'a>(
+fn end_literal<'a>(
     cells: &mut [u16; 114689],
     table: &'a [u16; 638],
     ends: &mut [u16; 64],
@@ -160,9 +161,77 @@ pub fn end_literal<'a>(
 }
 
 // The number of pattern row p's entry.
-pub fn side(numbers: &[u16; 319], rows: usize, p: u16) -> u16
+fn side(numbers: &[u16; 319], rows: usize, p: u16) -> u16
     requires { ⌜ rows ≤ 319 ⌝ }
     ensures { λ r. ⌜ r ≡ numberAt (now (numbers .entry)) (rows + p) ⌝ }
 {
     number_of(numbers, rows + wide(p))
+}
+
+// Conclusion j, for literal j of the clause's columns.
+fn end_one<'a>(
+    cells: &mut [u16; 114689],
+    table: &'a [u16; 638],
+    ends: &mut [u16; 64],
+    numbers: &'a [u16; 319],
+    rows: usize,
+    lefts: &'a [u16; 510],
+    rights: &'a [u16; 510],
+    count: usize,
+    signs: &'a [u8; 16],
+    ls: &'a [u16; 16],
+    rs: &'a [u16; 16],
+    literals: usize,
+    j: usize,
+)
+    requires { ⌜ count ≤ 510 ⌝ }
+    requires { ⌜ rows ≤ 319 ⌝ }
+    requires { ⌜ j < literals ⌝ }
+    requires { ⌜ literals ≤ 16 ⌝ }
+    ensures { λ _. ⌜ Leaves (now (cells .exit)) (now (ends .exit)) (endOne (now (table .entry)) (now (numbers .entry)) rows (pairsFrom (now (lefts .entry)) (now (rights .entry)) count) (literalsFrom (now (signs .entry)) (now (ls .entry)) (now (rs .entry)) literals) j (record { cells = now (cells .entry); ends = now (ends .entry) })) ⌝ }
+{
+    let x = side(numbers, rows, ls[j]);
+    let y = side(numbers, rows, rs[j]);
+    end_literal(cells, table, ends, lefts, rights, count, signs[j], j, x, y);
+}
+
+// A conclusion for each literal.
+pub fn conclude<'a>(
+    cells: &mut [u16; 114689],
+    table: &'a [u16; 638],
+    ends: &mut [u16; 64],
+    numbers: &'a [u16; 319],
+    rows: usize,
+    lefts: &'a [u16; 510],
+    rights: &'a [u16; 510],
+    count: usize,
+    signs: &'a [u8; 16],
+    ls: &'a [u16; 16],
+    rs: &'a [u16; 16],
+    literals: usize,
+)
+    requires { ⌜ count ≤ 510 ⌝ }
+    requires { ⌜ rows ≤ 319 ⌝ }
+    requires { ⌜ literals ≤ 16 ⌝ }
+    ensures { λ _. ⌜ Leaves (now (cells .exit)) (now (ends .exit)) (ended (now (table .entry)) (now (numbers .entry)) rows (pairsFrom (now (lefts .entry)) (now (rights .entry)) count) (literalsFrom (now (signs .entry)) (now (ls .entry)) (now (rs .entry)) literals) literals (record { cells = now (cells .entry); ends = now (ends .entry) })) ⌝ }
+{
+    let mut j: usize = 0;
+    while j < literals {
+        end_one(
+            cells,
+            table,
+            ends,
+            numbers,
+            rows,
+            lefts,
+            rights,
+            count,
+            signs,
+            ls,
+            rs,
+            literals,
+            j,
+        );
+        j += 1;
+    }
 }

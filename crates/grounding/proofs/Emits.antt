@@ -47,7 +47,7 @@ module _ (c : Context) (k : Clause) (a : List ℕ) (rows : length (c .rows) ≤ 
   kind-small earlier s (by-congruence e f ts us p q w) = omega arith
 
   module _ (cells marks : List ℕ) (fits : countIn cells ≤ 16384) (long : length marks ≡ 16385) (none : (i : ℕ) → countIn cells < i → kept marks i ≡ false)
-      (follow : Follow c k a (draft (length (c .rows)) cells)) (small : (j : ℕ) → getD cells j 0 < 65536) where
+      (follow : Follow c k a (draft (length (c .rows)) cells)) (small : (i : ℕ) → i < countIn cells → (j : ℕ) → 0 < j → j ≤ 7 → getD cells (i * 7 + j) 0 < 65536) where
     abbrev n : ℕ
     n = countIn cells
 
@@ -106,10 +106,10 @@ module _ (c : Context) (k : Clause) (a : List ℕ) (rows : length (c .rows) ≤ 
         (p .1 .0 .1)
         (p .1 .1 .0)
         (p .1 .1 .1)
-        (new-small (cell i 1) (cell i 4) (small (i * 7 + 4)))
-        (new-small (cell i 1) (cell i 5) (small (i * 7 + 5)))
-        (new-small (cell i 1) (cell i 6) (small (i * 7 + 6)))
-        (new-small (cell i 1) (cell i 7) (small (i * 7 + 7)))
+        (new-small (cell i 1) (cell i 4) (small i h 4 (omega arith) (omega arith)))
+        (new-small (cell i 1) (cell i 5) (small i h 5 (omega arith) (omega arith)))
+        (new-small (cell i 1) (cell i 6) (small i h 6 (omega arith) (omega arith)))
+        (new-small (cell i 1) (cell i 7) (small i h 7 (omega arith) (omega arith)))
         ∙ go (ltb 2 (cell i 1)) refl
         ∙ ap (renamed (fresh keep)) (sym (draft-at (length (c .rows)) cells i h))
       where

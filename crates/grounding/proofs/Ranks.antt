@@ -1,5 +1,5 @@
 -- New numbers, and words that hold steps.
---     ranked-next, new-fresh   how many stay; a number's new one
+--     ranked-many, new-fresh   how many stay; a number's new one
 --     step-word                a step in three words
 -- Assumes nothing.
 use mathlib.Core.Bool.{Bool, true, false}

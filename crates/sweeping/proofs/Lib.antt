@@ -1,2 +1,3 @@
 -- The root of the laws.
 pub mod Marking
+pub mod Ranking

@@ -1,9 +1,10 @@
-// Which steps stay: those that a conclusion cites, and those that a step that stays cites.
+// Which steps stay: those that a conclusion cites, and those that a step that stays cites; and their new numbers.
 use numbering::numbers::wide;
 ghost use mathlib.Core.Path.{_≡_};
 ghost use Prim.Native.Nat.{_+_, _≤_, _<_};
 ghost use Rattle.grounding.specs.Draft.{countIn};
-ghost use Rattle.grounding.specs.Sweeping.{noted, notedFour, markOne, marked, endsNoted};
+ghost use Rattle.grounding.specs.Sweeping.{noted, notedFour, markOne, marked, endsNoted, rankOne, ranked};
+ghost use Rattle.sweeping.specs.Numbers.{Numbers};
 
 // Number r is marked, where it is not past a limit.
 fn note(marks: &mut [u16; 16385], limit: usize, r: u16)
@@ -79,4 +80,31 @@ pub fn mark<'a>(cells: &'a [u16; 114689], ends: &'a [u16; 64], marks: &mut [u16;
     let count = wide(cells[0]);
     mark_ends(ends, marks, count, n);
     mark_steps(cells, marks, count);
+}
+
+// Step i, counted from 0, gets the next number where it stays; the last number given.
+fn rank_one(marks: &mut [u16; 16385], i: usize, next: u16) -> u16
+    requires { ⌜ i < 16384 ⌝ }
+    requires { ⌜ next ≤ i ⌝ }
+    ensures { λ r. ⌜ Numbers (now (marks .exit)) r (rankOne i (record { marks = now (marks .entry); next = next })) ⌝ }
+{
+    if marks[i + 1] == 0 {
+        return next;
+    }
+    marks[i + 1] = next + 1;
+    next + 1
+}
+
+// The marks of the first n steps become their new numbers; how many stay.
+pub fn rank(marks: &mut [u16; 16385], n: usize) -> u16
+    requires { ⌜ n ≤ 16384 ⌝ }
+    ensures { λ r. ⌜ Numbers (now (marks .exit)) r (ranked (now (marks .entry)) n) ⌝ }
+{
+    let mut next: u16 = 0;
+    let mut i: usize = 0;
+    while i < n {
+        next = rank_one(marks, i, next);
+        i += 1;
+    }
+    next
 }

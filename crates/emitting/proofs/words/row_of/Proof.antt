@@ -1,0 +1,17 @@
+-- `emitting::words::row_of` meets its contract. The entry is a context row, or a pattern row.
+-- Assumes nothing.
+use Rattle.emitting.proofs.Wording.{mine}
+use Rattle.emitting.proofs.words.row_of.Statement.{statement}
+use Rattle.emitting.proofs.words.row_of.Tie as tie
+
+long-requires : tie.Need-long-requires
+long-requires c κs = search mine
+
+returns : tie.Need-returns
+returns c = search mine
+
+returns-2 : tie.Need-returns-2
+returns-2 c = search mine
+
+pub row-of-spec : {M : Type 1} → statement M
+row-of-spec = tie.close (tie.spec long-requires returns returns-2)

@@ -1,0 +1,9 @@
+-- The root of the laws.
+pub mod Made
+pub mod Placing
+pub mod Showing
+pub mod Drawing
+pub mod Seeking
+pub mod Writing
+pub mod Answers
+pub mod Controls

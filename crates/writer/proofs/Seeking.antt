@@ -1,0 +1,100 @@
+-- The search's answer, with the grounds for a breach.
+--     hit-..           a breach of so many variables, or none
+--     seek-broken      what is told for a breach breaks the rule
+--     seek-clear, seek-drawn    no breach, and a breach with its grounds
+-- Assumes nothing.
+use mathlib.Core.List.{List, [], _∷_}
+use mathlib.Core.Path.{_≡_, refl, sym, ap, _∙_}
+use Prim.Native.Nat.{ℕ}
+use native.Mathlib.Omega.{arith}
+use borrow.Author.Needs.{needs}
+use lib.ListN.{length}
+use Rattle.meaning.specs.Rules.{Found, found, nothing}
+use Rattle.meaning.specs.Replies.{breach, placesOf}
+use Rattle.ledger.specs.declared.ContextColumns.{ContextColumns}
+use Rattle.ledger.specs.declared.ClauseColumns.{ClauseColumns}
+use Rattle.search.specs.Hunting.{answerOf}
+use Rattle.search.specs.Finding.{foundBy}
+use Rattle.search.specs.declared.Kind.{Kind}
+use Rattle.search.specs.declared.Kind.the-variants as S
+use Rattle.search.specs.declared.Reply.{Reply as Searched}
+use Rattle.finder.specs.Claims.{said, asked, toldBy, Asks}
+use Rattle.finder.specs.declared.Outcome.the-variants as O
+use Rattle.writer.specs.Drawing.{bareWith, Broken, Drawn, hitBy, Seekable, Sought}
+use Rattle.writer.specs.declared.Grounds.{Grounds}
+use Rattle.writer.specs.declared.Hit.{Hit}
+use Rattle.writer.specs.declared.Hit.the-variants as H
+use Rattle.writer.proofs.Placing.{placed-chosen, placed-holds}
+
+pub hit-breach : (kind : Kind) (n : ℕ) → kind ≡ S.Breach n → H.Breach n ≡ hitBy kind
+hit-breach kind n e = rw e
+
+pub hit-clear : (kind : Kind) → kind ≡ S.Clear → H.Clear ≡ hitBy kind
+hit-clear kind e = rw e
+
+pub hit-unfit : (kind : Kind) → kind ≡ S.Unfit → H.Clear ≡ hitBy kind
+hit-unfit kind e = rw e
+
+module _ (c : ContextColumns) (table : List ℕ) (k : ClauseColumns) (w : Seekable c table k) where
+  pub seek-asks : Asks c k
+  seek-asks = w .asks
+
+  module _ (x : Searched) (search-is : x ≡ answerOf (foundBy (said c) table (asked k))) (hit : Hit) (hit-is : hit ≡ hitBy (x .kind)) where
+    hit-found : (q : Found) → foundBy (said c) table (asked k) ≡ q → (hit ≡ hitBy (answerOf q .kind)) × (x .places ≡ answerOf q .places)
+    hit-found q e = (
+      hit-is ∙ ap (λ (y : Searched). hitBy (y .kind)) (search-is ∙ ap answerOf e),
+      ap (λ (y : Searched). y .places) (search-is ∙ ap answerOf e),
+    )
+
+    -- a breach that is told was found, and stands in the places
+    told-found : (n : ℕ) → hit ≡ H.Breach n
+        → (a : List ℕ) × (foundBy (said c) table (asked k) ≡ found a) × (n ≡ length a) × (x .places ≡ placesOf (breach a))
+    unfolding answerOf placesOf
+    told-found n e = go (foundBy (said c) table (asked k)) refl
+      where
+        go : (q : Found) → foundBy (said c) table (asked k) ≡ q
+            → (a : List ℕ) × (foundBy (said c) table (asked k) ≡ found a) × (n ≡ length a) × (x .places ≡ placesOf (breach a))
+        go (found a) f = let z : H.Breach n ≡ H.Breach (length a) = sym e ∙ hit-found (found a) f .0 in (a, f, cc, hit-found (found a) f .1)
+        go nothing f = absurd (let z : H.Breach n ≡ H.Clear = sym e ∙ hit-found nothing f .0 in let o : _≡_ {A = ℕ} 0 1 = cc in omega arith)
+
+    pub seek-broken : (n : ℕ) → hit ≡ H.Breach n → Broken c k (x .places)
+    unfolding placesOf
+    seek-broken n e =
+        let t : (a : List ℕ) × (foundBy (said c) table (asked k) ≡ found a) × (n ≡ length a) × (x .places ≡ placesOf (breach a)) = told-found n e in
+        rw (t .3)
+        record {
+          asks = w .asks;
+          chosen = placed-chosen (said c) (asked k) (t .0) (w .breach (t .0) (t .1));
+          holds = placed-holds (said c) (asked k) (t .0) (w .breach (t .0) (t .1));
+        }
+
+    module _ (firsts seconds thirds : List ℕ) where
+      pub seek-clear : hit ≡ H.Clear → (y : Grounds) → y ≡ bareWith O.Clear (x .places) → Sought c table k firsts seconds thirds y firsts seconds thirds
+      unfolding bareWith placesOf answerOf
+      seek-clear e y q = rw q (go (foundBy (said c) table (asked k)) refl)
+        where
+          go : (f : Found) → foundBy (said c) table (asked k) ≡ f → Sought c table k firsts seconds thirds (bareWith O.Clear (x .places)) firsts seconds thirds
+          go (found a) f = absurd (let z : H.Clear ≡ H.Breach (length a) = sym e ∙ hit-found (found a) f .0 in let o : _≡_ {A = ℕ} 0 1 = cc in omega arith)
+          go nothing f =
+              record {
+                what = nothing;
+                finds = f;
+                told = refl;
+                places = hit-found nothing f .1;
+                leaves = λ room. record { steps = refl; literals = refl; conclusions = refl; first = refl; second = refl; third = refl };
+              }
+
+      pub seek-drawn : (n : ℕ) → hit ≡ H.Breach n → {y : Grounds} {firsts′ seconds′ thirds′ : List ℕ}
+          → Drawn c k n (x .places) firsts seconds thirds y firsts′ seconds′ thirds′
+          → Sought c table k firsts seconds thirds y firsts′ seconds′ thirds′
+      seek-drawn n e d =
+          let t : (a : List ℕ) × (foundBy (said c) table (asked k) ≡ found a) × (n ≡ length a) × (x .places ≡ placesOf (breach a)) = told-found n e in
+          record {
+            what = found (t .0);
+            finds = t .1;
+            told = ap toldBy (d .outcome) ∙ ap (λ (m : ℕ). 8 ∷ m ∷ []) (t .2);
+            places = d .places ∙ t .3;
+            leaves = d .shown;
+          }
+
+pub ruleset mine = (needs, hit-breach, hit-clear, hit-unfit, seek-asks, seek-broken, seek-clear, seek-drawn)

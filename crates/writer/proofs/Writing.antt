@@ -1,0 +1,106 @@
+-- The ways out of the writer.
+--     write-refused, write-cramped   the finder's refusal, and refusal 10
+--     write-seekable, write-sought   a rule that is ready is searched for, and that is the answer
+-- Assumes nothing.
+use mathlib.Core.Bool.{Bool, true, false}
+use mathlib.Core.List.{List}
+use mathlib.Core.Path.{_≡_, refl, sym, _∙_, subst, subst₂}
+use Prim.Native.Nat.{ℕ, _≤_}
+use native.Mathlib.Omega.{arith}
+use borrow.Author.Needs.{needs}
+use borrow.Author.Tests.{ltb-true, ltb-false}
+use lib.Dec.{ltb}
+use Rattle.meaning.specs.Context.{Context}
+use Rattle.meaning.specs.Rules.{rangeOf, Clause, Breach, Found, found, nothing}
+use Rattle.meaning.specs.Text.{narrow, Reading}
+use Rattle.meaning.specs.Replies as M
+use Rattle.meaning.specs.Replies.{breach, refused, refusal, replyOf, placesOf, Judged, empty, clashes, answers, Replies, RepliesTo}
+use Rattle.ledger.specs.Phases.{meant}
+use Rattle.ledger.specs.declared.Refusal.{Refusal}
+use Rattle.search.specs.Finding.{foundBy}
+use Rattle.finder.specs.Claims.{said, asked, Prepares}
+use Rattle.finder.specs.declared.Answer.the-variants as A
+use Rattle.finder.specs.declared.Prepared.{Prepared}
+use Rattle.finder.proofs.Preparing.{Stands, ready-stands, ready-asks, ready-replies, refused-answers}
+use Rattle.writer.specs.Claims.{most, space, refuses, lacks, replies, Shown, Leaves, Writes}
+use Rattle.writer.specs.Drawing.{bareWith, refusedWith, Seekable, LeavesFor, Sought}
+use Rattle.writer.specs.declared.Grounds.{Grounds}
+
+write-room : (firsts seconds thirds : List ℕ) (b : Bool) → b ≡ ltb (space firsts seconds thirds) most → b ≡ false → most ≤ space firsts seconds thirds
+write-room firsts seconds thirds b e h = ltb-false (space firsts seconds thirds) most (sym e ∙ h)
+
+module _ (text : List ℕ) (p : Prepared) (prepares : Prepares text p) (firsts seconds thirds : List ℕ) where
+  pub write-refused : (x : Refusal) → p .answer ≡ A.Refused x → (y : Grounds) → y ≡ refusedWith x → Writes text firsts seconds thirds y firsts seconds thirds
+  unfolding refusedWith bareWith placesOf
+  write-refused x e y q =
+      rw q
+      record {
+        reply = refused (meant x);
+        answers = refuses (meant x) (refused-answers text p prepares x e);
+        told = refl;
+        places = refl;
+        leaves = record { steps = refl; literals = refl; conclusions = refl; first = refl; second = refl; third = refl };
+      }
+
+  module _ (ready : p .answer ≡ A.Ready) where
+    abbrev c : Context
+    c = said (p .context)
+
+    abbrev k : Clause
+    k = asked (p .clause)
+
+    stands : Stands text p
+    stands = ready-stands text p prepares ready
+
+    pub write-cramped : (b : Bool) → b ≡ ltb (space firsts seconds thirds) most → b ≡ true
+        → (y : Grounds) → y ≡ refusedWith (record { number = 10; line = 0; offset = 0 }) → Writes text firsts seconds thirds y firsts seconds thirds
+    unfolding refusedWith bareWith placesOf
+    write-cramped b e h y q =
+        rw q
+        record {
+          reply = refused (refusal 10 0);
+          answers = lacks (foundBy c (p .table) k) (ready-replies text p prepares ready) (ltb-true (space firsts seconds thirds) most (sym e ∙ h));
+          told = refl;
+          places = refl;
+          leaves = record { steps = refl; literals = refl; conclusions = refl; first = refl; second = refl; third = refl };
+        }
+
+    judged-breach : (d : Context) (l : Clause) (a : List ℕ) (u : M.Reply) → u ≡ breach a → Judged d l u → Breach d (rangeOf d) l a
+    judged-breach d l a u e (empty w) = absurd (let z : _≡_ {A = ℕ} 0 1 = cc in omega arith)
+    judged-breach d l a u e (clashes w n h) = absurd (let z : _≡_ {A = ℕ} 0 1 = cc in omega arith)
+    judged-breach d l a u e (answers w h (found b) q) = let z : b ≡ a = cc in subst (Breach d (rangeOf d) l) z (q .0)
+    judged-breach d l a u e (answers w h nothing q) = absurd (let z : _≡_ {A = ℕ} 0 1 = cc in omega arith)
+
+    replied : (q : Found) → foundBy c (p .table) k ≡ q → Replies narrow text (replyOf q)
+    replied q e = subst (λ (q : Found). Replies narrow text (replyOf q)) e (ready-replies text p prepares ready)
+
+    breach-said : (a : List ℕ) → foundBy c (p .table) k ≡ found a → Breach c (rangeOf c) k a
+    breach-said a e =
+        subst₂ (λ (d : Context) (l : Clause). Breach d (rangeOf d) l a) (sym (stands .context)) (sym (stands .clause))
+        (judged-breach (stands .what .ledger .context) (stands .what .clause) a (breach a) refl (subst (λ (y : Reading). RepliesTo y (breach a)) (stands .whole) (replied (found a) e)))
+
+    pub write-seekable : Seekable (p .context) (p .table) (p .clause)
+    write-seekable = record { asks = ready-asks text p prepares ready; breach = breach-said }
+
+    pub write-sought : (b : Bool) → b ≡ ltb (space firsts seconds thirds) most → b ≡ false → {y : Grounds} {firsts′ seconds′ thirds′ : List ℕ}
+        → Sought (p .context) (p .table) (p .clause) firsts seconds thirds y firsts′ seconds′ thirds′
+        → Writes text firsts seconds thirds y firsts′ seconds′ thirds′
+    write-sought b e h {y} {firsts′} {seconds′} {thirds′} w =
+        record {
+          reply = replyOf (w .what);
+          answers = replies (w .what) (replied (w .what) (w .finds)) (write-room firsts seconds thirds b e h);
+          told = w .told;
+          places = w .places;
+          leaves = leaves (w .what) (w .leaves (write-room firsts seconds thirds b e h));
+        }
+      where
+        leaves : (q : Found) → LeavesFor firsts seconds thirds y firsts′ seconds′ thirds′ c k q → Leaves firsts seconds thirds y firsts′ seconds′ thirds′ text (replyOf q)
+        leaves (found a) l =
+            record {
+              said = stands .what;
+              reads = stands .whole;
+              shown = subst₂ (λ (g : Context) (n : Clause). Shown firsts seconds thirds y firsts′ seconds′ thirds′ g n) (stands .context) (stands .clause) l;
+            }
+        leaves nothing l = l
+
+pub ruleset mine = (needs, write-refused, write-cramped, write-seekable, write-sought)
