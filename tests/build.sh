@@ -32,10 +32,13 @@ build_efficient() {
     crate standin bench/efficient/boundary.rs "$1" --extern efficient="$1/libefficient.rlib"
 }
 
+# link_with_standin FOLDER PROGRAM WORDS..: with --cfg judging it stands in for the programs `grounds` and `verify` too
 link_with_standin() {
+    standin_folder=$1 standin_program=$2
+    shift 2
     # shellcheck disable=SC2086
-    $RUSTC --cfg standin -L $out -L "$1" --extern harness=$out/libharness.rlib --extern standin="$1/libstandin.rlib" \
-        -o "$2" tests/harness/main.rs
+    $RUSTC --cfg standin "$@" -L $out -L "$standin_folder" --extern harness=$out/libharness.rlib \
+        --extern standin="$standin_folder/libstandin.rlib" -o "$standin_program" tests/harness/main.rs
 }
 
 link_with_library() {

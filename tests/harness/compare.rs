@@ -48,7 +48,9 @@ pub fn differences(case: &Case, programs: &Programs) -> Vec<String> {
         said.extend(programs.difference("normalise", &case.text, &normalise_prints(&case.text)));
         said.extend(listing::program_difference(&case.text, programs));
     }
-    said.extend(listing::differences(&case.text));
+    if said.is_empty() {
+        said.extend(listing::differences(&case.text)); // a wrong finder may end the process on its own assignments
+    }
     if case.anew {
         said.extend(reference_difference(&case.text));
     }

@@ -1,5 +1,7 @@
-//! Texts that are kept with their replies: NAME.in, and what the programs print for it, NAME.find, NAME.norm and NAME.all.
+//! Texts that are kept with their replies: NAME.in, and what programs print for it, NAME.find, NAME.norm and NAME.all, or
+//! NAME.verify where grounds follow the text. NAME.steps says how many steps are written for it at most.
 
+use reference::grounds::verify_prints;
 use reference::{breaches_prints, find_prints, normalise_prints};
 use std::fs;
 use std::path::{Path, PathBuf};
@@ -7,10 +9,23 @@ use std::path::{Path, PathBuf};
 pub struct Kept {
     pub name: String,
     pub text: Vec<u8>,
-    find: Vec<u8>,
-    norm: Vec<u8>,
-    all: Vec<u8>,
+    replies: Vec<(&'static Program, Vec<u8>)>,
+    steps: Option<usize>,
 }
+
+/// The ending of the replies, and what the reference says.
+struct Program {
+    name: &'static str,
+    ending: &'static str,
+    prints: fn(&[u8]) -> Vec<u8>,
+}
+
+const OF_TEXTS: [Program; 3] = [
+    Program { name: "find", ending: "find", prints: find_prints },
+    Program { name: "normalise", ending: "norm", prints: normalise_prints },
+    Program { name: "breaches", ending: "all", prints: breaches_prints },
+];
+const OF_GROUNDS: [Program; 1] = [Program { name: "verify", ending: "verify", prints: verify_prints }];
 
 pub fn kept_texts(folder: &str) -> Vec<Kept> {
     let entries = fs::read_dir(folder).unwrap_or_else(|failure| panic!("{}: {}", folder, failure));
@@ -21,36 +36,38 @@ pub fn kept_texts(folder: &str) -> Vec<Kept> {
 }
 
 fn kept_text(path: &Path) -> Kept {
-    let read = |path: &Path| fs::read(path).unwrap_or_else(|failure| panic!("{}: {}", path.display(), failure));
     let name = path.file_stem().expect("a name").to_string_lossy().into_owned();
-    let reply = |extension: &str| read(&path.with_extension(extension));
-    Kept { name, text: read(path), find: reply("find"), norm: reply("norm"), all: reply("all") }
+    let read = |ending: &str| fs::read(path.with_extension(ending)).ok();
+    let programs = OF_TEXTS.iter().chain(&OF_GROUNDS);
+    let replies = programs.filter_map(|program| Some((program, read(program.ending)?))).collect();
+    let steps = read("steps").map(|number| String::from_utf8_lossy(&number).trim().parse().expect("a number of steps"));
+    Kept { name, text: read("in").expect("a text"), replies, steps }
 }
 
 impl Kept {
     /// Whether the reference still gives the replies that were kept.
     pub fn differences(&self) -> Vec<String> {
-        let mut said = Vec::new();
-        if find_prints(&self.text) != self.find {
-            said.push("the reference finds something else than was kept".to_string());
+        if self.replies.is_empty() {
+            return vec!["no reply was kept".to_string()];
         }
-        if normalise_prints(&self.text) != self.norm {
-            said.push("the reference normalises to something else than was kept".to_string());
-        }
-        if breaches_prints(&self.text) != self.all {
-            said.push("the reference lists something else than was kept".to_string());
-        }
-        said
+        let others = self.replies.iter().filter(|(program, kept)| (program.prints)(&self.text) != *kept);
+        others.map(|(program, _)| format!("{}: the reference says something else than was kept", program.name)).collect()
+    }
+
+    /// Whether more steps were written than were kept as the most.
+    pub fn too_many_steps(&self, written: Option<usize>) -> Option<String> {
+        let (written, most) = (written?, self.steps?);
+        (written > most).then(|| format!("program grounds: {} steps, and {} are kept as the most", written, most))
     }
 }
 
-pub fn keep(folder: &str, name: &str, text: &[u8]) {
+/// Keeps a text, or an input of `verify`, with its replies.
+pub fn keep(folder: &str, name: &str, text: &[u8], with_grounds: bool) {
     let path = Path::new(folder).join(name);
-    let write = |extension: &str, bytes: &[u8]| {
-        fs::write(path.with_extension(extension), bytes).unwrap_or_else(|failure| panic!("{}: {}", path.display(), failure));
+    let write = |ending: &str, bytes: &[u8]| {
+        fs::write(path.with_extension(ending), bytes).unwrap_or_else(|failure| panic!("{}: {}", path.display(), failure));
     };
     write("in", text);
-    write("find", &find_prints(text));
-    write("norm", &normalise_prints(text));
-    write("all", &breaches_prints(text));
+    let programs = if with_grounds { &OF_GROUNDS[..] } else { &OF_TEXTS[..] };
+    programs.iter().for_each(|program| write(program.ending, &(program.prints)(text)));
 }

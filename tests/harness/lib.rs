@@ -7,6 +7,7 @@
 //!   --stop        end at the first difference
 //!   --keep NAME   put the first text that differs, shortened, into the folder of kept texts under this name
 //!   --trace       say each text's number before it is tried
+//!   --grounds K   one text in K goes through `grounds`, and what is made of it through `verify`; 11 where it is not said
 //! Environment: PROGRAMS, the folder of the programs (none are run without it); LAUNCH, words that start one; TEXTS, the
 //! folder of kept texts.
 
@@ -17,22 +18,30 @@ mod compare;
 mod context;
 mod damage;
 mod draft;
+mod edges;
+mod frames;
 mod generate;
+mod grounds;
 mod kept;
 mod listing;
 mod programs;
 mod random;
 mod shrink;
+mod spoil;
 mod tally;
 
 use compare::{case_of, differences, Case};
 use generate::{aim_of, text_of, Aim};
+use grounds::{tried, verify_difference, writer_differences, Tried};
 use programs::Programs;
+pub use programs::Standin;
 use random::Random;
 use tally::Tally;
 
 /// One text in so many goes through the programs, besides those that are too long for them.
 const SAMPLE: u64 = 40;
+/// One text in so many goes through `grounds`.
+const GROUNDS: u64 = 11;
 
 struct Options {
     seed: u64,
@@ -42,6 +51,7 @@ struct Options {
     stop: bool,
     trace: bool,
     keep: Option<String>,
+    grounds: u64,
 }
 
 fn options(words: &[String]) -> Option<Options> {
@@ -56,23 +66,26 @@ fn options(words: &[String]) -> Option<Options> {
         stop: has("--stop"),
         trace: has("--trace"),
         keep: after("--keep").and_then(|place| words.get(place).cloned()),
+        grounds: after("--grounds").and_then(number).unwrap_or(GROUNDS).max(1),
     })
 }
 
 /// The whole run. Its exit status: 0 nothing differs, 1 something does, 2 it was called wrongly.
-pub fn run() -> i32 {
+pub fn run(standin: Option<Standin>) -> i32 {
     let words: Vec<String> = std::env::args().skip(1).collect();
     let Some(options) = options(&words) else {
-        eprintln!("differential SEED NUMBER [--first I] [--show] [--stop] [--keep NAME] [--trace]");
+        eprintln!("differential SEED NUMBER [--first I] [--show] [--stop] [--keep NAME] [--trace] [--grounds K]");
         return 2;
     };
-    let mut run = Run { options, programs: Programs::from_environment(), tally: Tally::default(), passed: 0, failed: 0 };
+    let programs = Programs::from_environment(standin);
+    let mut run = Run { options, programs, tally: Tally::default(), passed: 0, failed: 0 };
     if run.options.show {
         run.show();
         return 0;
     }
     run.try_kept();
     run.try_texts();
+    run.try_edges();
     run.end()
 }
 
@@ -109,11 +122,12 @@ impl Run {
             println!("find: {}", String::from_utf8_lossy(&reference::find_prints(&text)));
             println!("breaches: {}", String::from_utf8_lossy(&reference::breaches_prints(&text)));
             println!("normalise: {}", String::from_utf8_lossy(&reference::normalise_prints(&text)));
+            println!("grounds: {}", String::from_utf8_lossy(&reference::writing::grounds_prints(&text)));
         }
     }
 
     fn try_kept(&mut self) {
-        for kept in kept::kept_texts(&texts_folder()) {
+        for (place, kept) in kept::kept_texts(&texts_folder()).into_iter().enumerate() {
             if self.stopped() {
                 return;
             }
@@ -121,7 +135,10 @@ impl Run {
                 Case { text: kept.text.clone(), space: 0, every_space: true, by_programs: self.programs.there(), anew: true };
             let mut said = kept.differences();
             said.extend(differences(&case, &self.programs));
-            self.note(&format!("kept text {}", kept.name), &case, said);
+            let mut tried = tried(&mut self.random_of_grounds(place as u64), &kept.text, &self.programs);
+            tried.verify(kept.text.clone(), &self.programs);
+            said.extend(kept.too_many_steps(tried.steps));
+            self.note_case(&format!("kept text {}", kept.name), &case, said, tried);
         }
     }
 
@@ -136,42 +153,83 @@ impl Run {
             let case = self.case(index);
             let said = differences(&case, &self.programs);
             self.tally.add(&case.text, case.space, case.by_programs);
-            self.note(&format!("text {} of seed {}", index, self.options.seed), &case, said);
+            let tried = if said.is_empty() && index % self.options.grounds == 0 {
+                tried(&mut self.random_of_grounds(index), &case.text, &self.programs)
+            } else {
+                Tried::default()
+            };
+            self.note_case(&format!("text {} of seed {}", index, self.options.seed), &case, said, tried);
         }
+    }
+
+    /// The limits of `verify`.
+    fn try_edges(&mut self) {
+        if !self.programs.judge() {
+            return;
+        }
+        for edge in edges::edges() {
+            if self.stopped() {
+                return;
+            }
+            let mut tried = Tried::default();
+            tried.verify(edge.input, &self.programs);
+            if tried.replies != [edge.reply] {
+                tried.said.push("the reference replies something else".to_string());
+            }
+            self.note(edge.name, &[], &tried);
+        }
+    }
+
+    /// Other numbers than the text's own.
+    fn random_of_grounds(&self, index: u64) -> Random {
+        Random::of(!self.options.seed, index)
     }
 
     fn stopped(&self) -> bool {
         self.options.stop && self.failed > 0
     }
 
-    fn note(&mut self, name: &str, case: &Case, said: Vec<String>) {
-        if said.is_empty() {
+    fn note(&mut self, name: &str, said: &[String], tried: &Tried) {
+        self.tally.add_grounds(tried);
+        if said.is_empty() && tried.said.is_empty() {
             self.passed += 1;
             return;
         }
         self.failed += 1;
-        for difference in &said {
+        for difference in said.iter().chain(&tried.said) {
             println!("{}: {}", name, difference);
-        }
-        if self.failed == 1 {
-            self.keep_shrunk(case);
         }
     }
 
-    fn keep_shrunk(&self, case: &Case) {
-        if let Some(name) = &self.options.keep {
-            let differs = |text: &[u8]| {
-                let case = Case { text: text.to_vec(), space: 0, every_space: true, by_programs: case.by_programs, anew: false };
-                !differences(&case, &self.programs).is_empty()
-            };
-            kept::keep(&texts_folder(), name, &shrink::shrunk(&case.text, differs));
+    /// The first case that differs is kept.
+    fn note_case(&mut self, name: &str, case: &Case, said: Vec<String>, tried: Tried) {
+        let failed = self.failed;
+        self.note(name, &said, &tried);
+        if failed == 0 && self.failed == 1 {
+            self.keep_shrunk(case, tried.input.filter(|_| said.is_empty()));
         }
+    }
+
+    fn keep_shrunk(&self, case: &Case, input: Option<Vec<u8>>) {
+        let Some(name) = &self.options.keep else { return };
+        let with_grounds = input.is_some();
+        let shrunk = match input {
+            Some(input) => shrink::shrunk(&input, |input| verify_difference(input, &self.programs).is_some()),
+            None => shrink::shrunk(&case.text, |text| self.differs(text, case.by_programs)),
+        };
+        kept::keep(&texts_folder(), name, &shrunk, with_grounds);
+    }
+
+    fn differs(&self, text: &[u8], by_programs: bool) -> bool {
+        let case = Case { text: text.to_vec(), space: 0, every_space: true, by_programs, anew: false };
+        let by_grounds = || writer_differences(text, &self.programs.printed("grounds", text));
+        !differences(&case, &self.programs).is_empty() || (self.programs.judge() && !by_grounds().is_empty())
     }
 
     fn end(&mut self) -> i32 {
         self.tally.print();
         if !self.options.stop {
-            for missed in self.tally.missed(self.programs.there()) {
+            for missed in self.tally.missed(&self.programs) {
                 println!("{}", missed);
                 self.failed += 1;
             }

@@ -6,6 +6,12 @@
 #[cfg(standin)]
 extern crate standin as _;
 
+/// The reference stands in for two programs besides.
+#[cfg(judging)]
+const STANDIN: Option<harness::Standin> = Some(standin::program);
+#[cfg(not(judging))]
+const STANDIN: Option<harness::Standin> = None;
+
 extern "C" {
     fn signal(number: i32, action: usize) -> usize;
 }
@@ -17,5 +23,5 @@ const IGNORE: usize = 1;
 #[no_mangle]
 pub extern "C" fn main(_words: i32, _first: *const *const u8) -> i32 {
     unsafe { signal(BROKEN_PIPE, IGNORE) };
-    harness::run()
+    harness::run(STANDIN)
 }

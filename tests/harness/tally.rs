@@ -1,6 +1,8 @@
 //! How many texts had which reply, and whether each kind had its share.
 
 use crate::generate::{late, some_literal_holds};
+use crate::grounds::Tried;
+use crate::programs::Programs;
 use reference::text::{read, Refusal};
 use reference::{find, normalise, Found, INPUT_LIMIT};
 use std::collections::BTreeMap;
@@ -15,7 +17,14 @@ pub struct Tally {
     /// Texts that some reply refused by this number.
     refusals: [usize; 12],
     sizes: Sizes,
+    /// Inputs of `verify`, by the second byte of an 0B reply, and refusals.
+    judged: [usize; 5],
+    /// Breaches for which grounds were written, and the most steps.
+    grounded: usize,
+    steps: usize,
 }
+
+const JUDGED: [&str; 5] = ["accepted", "a variable without a row", "a bad step", "a literal not concluded", "refused"];
 
 /// The most of everything in a text without a faulty line.
 #[derive(Default)]
@@ -45,6 +54,15 @@ impl Tally {
             self.refusals[number] += usize::from(refused);
         }
         self.measure(text);
+    }
+
+    pub fn add_grounds(&mut self, tried: &Tried) {
+        for reply in &tried.replies {
+            let place = if reply.starts_with(b"0B") { usize::from(reply[3] - b'0') } else { 4 };
+            self.judged[place] += 1;
+        }
+        self.grounded += usize::from(tried.steps.is_some());
+        self.steps = self.steps.max(tried.steps.unwrap_or(0));
     }
 
     fn count(&mut self, reply: &str) {
@@ -96,6 +114,10 @@ impl Tally {
         for (reply, count) in &self.replies {
             println!("{:8}  {}", count, reply);
         }
+        for (said, count) in JUDGED.iter().zip(self.judged) {
+            println!("{:8}  verify: {}", count, said);
+        }
+        println!("{:8}  breaches with grounds, of {} steps at most", self.grounded, self.steps);
         println!("{:8}  breaches are late: variable 0 has a row of the last half", self.late_breaches);
         let sizes = &self.sizes;
         println!(
@@ -104,8 +126,8 @@ impl Tally {
         );
     }
 
-    /// The shares that were missed. Refusal 11 is asked for where programs are run.
-    pub fn missed(&self, programs: bool) -> Vec<String> {
+    /// The shares that were missed. Refusal 11 is asked for where programs are run, and each reply of `verify` where it is.
+    pub fn missed(&self, programs: &Programs) -> Vec<String> {
         let mut missed = Vec::new();
         let mut ask = |what: String, count: usize, of: usize| {
             if self.texts >= ENOUGH && count * of < self.texts {
@@ -114,8 +136,17 @@ impl Tally {
         };
         ask("are breaches with two or more variables".into(), self.many_breaches, 4);
         ask("are none with a literal that holds somewhere".into(), self.telling_none, 4);
-        for number in 1..=if programs { 11 } else { 10 } {
+        for number in 1..=if programs.there() { 11 } else { 10 } {
             ask(format!("are refused by {}", number), self.refusals[number], 100);
+        }
+        let inputs: usize = self.judged.iter().sum();
+        for (said, count) in JUDGED.iter().zip(self.judged).filter(|_| programs.judge() && inputs >= ENOUGH) {
+            if count * 20 < inputs {
+                missed.push(format!(
+                    "share missed: of {} inputs verify says {} times '{}', fewer than one in 20",
+                    inputs, count, said
+                ));
+            }
         }
         missed
     }

@@ -112,11 +112,16 @@ pub fn first_breach(text: &Text) -> Option<Vec<usize>> {
     assignments(text).find(|assignment| terms.holding(text, assignment).into_iter().all(|held| held))
 }
 
+/// Whether every literal holds under the assignment.
+pub fn is_breach(text: &Text, assignment: &[usize]) -> bool {
+    Terms::of(text).holding(text, assignment).into_iter().all(|held| held)
+}
+
 /// Every breach whose rows are all representatives, in order.
 pub fn breaches(text: &Text) -> impl Iterator<Item = Vec<usize>> + '_ {
     let lowest = close(&text.rows, &text.equations);
     let mut terms = Terms::of(text);
-    let representatives = assignments(text).filter(move |rows| rows.iter().all(|row| lowest[*row] == *row));
+    let representatives = assignments(text).filter(move |rows| rows.iter().all(|row| lowest.get(*row) == Some(row)));
     representatives.filter(move |rows| terms.holding(text, rows).into_iter().all(|held| held))
 }
 

@@ -173,24 +173,37 @@ impl<'a> Terms<'a> {
 /// The most steps that the program takes.
 pub const STEP_LIMIT: usize = 278_528;
 
-/// What the program prints.
-pub fn verify_prints(input: &[u8]) -> Vec<u8> {
+/// An input of the program in its parts.
+pub struct Parts {
+    pub text: Vec<u8>,
+    pub places: [usize; 4],
+    pub steps: Vec<Step>,
+    pub conclusions: Vec<Conclusion>,
+}
+
+/// The text ends before the first line that begins with 08. A line after that is a conclusion or a step; a malformed one is a step
+/// of no kind.
+pub fn parts_of(input: &[u8]) -> Parts {
     let lines: Vec<&[u8]> = input.split_inclusive(|byte| *byte == b'\n').collect();
     let opening = lines.iter().position(|line| line.starts_with(b"08")).unwrap_or(lines.len());
-    let text = lines[..opening].concat();
     let places = lines.get(opening).map_or([255; 4], |line| places_in(line));
-    let mut steps = Vec::new();
-    let mut conclusions = Vec::new();
+    let mut parts = Parts { text: lines[..opening].concat(), places, steps: Vec::new(), conclusions: Vec::new() };
     for line in lines.iter().skip(opening + 1) {
         match conclusion_in(line) {
-            Some(conclusion) => conclusions.push(conclusion),
-            None => steps.push(step_in(line).unwrap_or_default()),
+            Some(conclusion) => parts.conclusions.push(conclusion),
+            None => parts.steps.push(step_in(line).unwrap_or_default()),
         }
     }
-    if text.len() > INPUT_LIMIT || steps.len() > STEP_LIMIT {
+    parts
+}
+
+/// What the program prints.
+pub fn verify_prints(input: &[u8]) -> Vec<u8> {
+    let parts = parts_of(input);
+    if parts.text.len() > INPUT_LIMIT || parts.steps.len() > STEP_LIMIT {
         return refusal_line(&refusal(11, 0));
     }
-    match judge(&text, places, &steps, &conclusions) {
+    match judge(&parts.text, parts.places, &parts.steps, &parts.conclusions) {
         Err(refused) => refusal_line(&refused),
         Ok(verdict) => line(&verdict_bytes(&verdict)),
     }
@@ -235,7 +248,7 @@ fn name_in(bytes: &[u8]) -> Name {
     Name { mark: bytes[0], row: number(&bytes[1..3]) }
 }
 
-fn step_in(line: &[u8]) -> Option<Step> {
+pub fn step_in(line: &[u8]) -> Option<Step> {
     let bytes = bytes_in(line)?;
     if bytes.len() != 25 || bytes[0] != 0xB0 {
         return None;
@@ -244,7 +257,7 @@ fn step_in(line: &[u8]) -> Option<Step> {
     Some(Step { owner: bytes[1], kind: bytes[2], left: name_in(&bytes[3..6]), right: name_in(&bytes[6..9]), numbers })
 }
 
-fn conclusion_in(line: &[u8]) -> Option<Conclusion> {
+pub fn conclusion_in(line: &[u8]) -> Option<Conclusion> {
     let bytes = bytes_in(line)?;
     if bytes.len() != 13 || bytes[0] != 0xB1 {
         return None;

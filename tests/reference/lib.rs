@@ -6,6 +6,7 @@ pub mod closing;
 pub mod grounds;
 pub mod normal;
 pub mod text;
+pub mod writing;
 
 use breach::{breaches, first_breach, variables};
 use closing::{close, first_clash};
@@ -33,7 +34,7 @@ fn judge(bytes: &[u8]) -> Result<Option<Vec<usize>>, Refusal> {
 }
 
 /// A text with a rule. After the faulty lines 8, then 9.
-fn rule(bytes: &[u8]) -> Result<Text, Refusal> {
+pub fn rule(bytes: &[u8]) -> Result<Text, Refusal> {
     let text = read(bytes)?;
     if text.literals.is_empty() {
         return Err(refusal(8, 0));

@@ -1,4 +1,5 @@
-//! reference find | normalise | breaches | verify     a text on standard input (for verify with grounds after it), the program's reply on standard output
+//! reference find | normalise | breaches | grounds | verify     a text on standard input (for verify with grounds after it), the
+//! program's reply on standard output
 
 use std::io::{Read, Write};
 
@@ -9,8 +10,9 @@ fn main() {
         Some("find") => reference::find_prints(&input),
         Some("normalise") => reference::normalise_prints(&input),
         Some("breaches") => reference::breaches_prints(&input),
+        Some("grounds") => reference::writing::grounds_prints(&input),
         Some("verify") => reference::grounds::verify_prints(&input),
-        _ => panic!("reference find | normalise | breaches | verify"),
+        _ => panic!("reference find | normalise | breaches | grounds | verify"),
     };
     std::io::stdout().write_all(&reply).expect("standard output");
 }

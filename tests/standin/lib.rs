@@ -1,11 +1,21 @@
-//! The functions of the C boundary over the reference: what stands in for the library, rightly or, after an edit, wrongly.
+//! The functions of the C boundary over the reference: what stands in for the library, rightly or, after an edit, wrongly. Besides,
+//! what stands in for the programs that write and judge grounds.
 
 #[path = "../boundary.rs"]
 #[allow(dead_code)]
 mod boundary;
 
 use boundary::{breach, refused, written, Rows, NONE};
+use reference::grounds::verify_prints;
+use reference::writing::grounds_prints;
 use reference::{find, next_after, normalise, Found};
+
+pub fn program(name: &str, input: &[u8]) -> Vec<u8> {
+    match name {
+        "grounds" => grounds_prints(input),
+        _ => verify_prints(input),
+    }
+}
 
 /// # Safety
 /// `text` has `length` bytes.
