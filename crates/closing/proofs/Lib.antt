@@ -4,10 +4,10 @@ pub mod Examples
 mod Chains
 mod Clashes
 mod Columns
-mod Merges
+pub mod Merges
 mod Nearing
-mod Pairs
+pub mod Pairs
 mod Rounds
-mod Rows
+pub mod Rows
 mod Stated
 mod Tables

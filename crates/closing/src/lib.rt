@@ -1,10 +1,10 @@
 // The closing of a context that is handed over in columns: each row's representative, the lowest row that is equal to it. Nothing here
 // knows of texts.
 
-mod mates;
+pub mod mates;
 mod statements;
-mod table;
-mod wake;
+pub mod table;
+pub mod wake;
 
 use columns::fit_context;
 use mates::join_rows;

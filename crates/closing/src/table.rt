@@ -28,7 +28,7 @@ pub fn at_row(table: &[u16; 255], row: usize) -> u16
 }
 
 // How many places a table has.
-fn places(table: &[u16; 255]) -> usize
+pub fn places(table: &[u16; 255]) -> usize
     ensures { λ r. ⌜ (r ≡ 255) × (length (now (table .entry)) ≡ 255) ⌝ }
 {
     let all: &[u16] = table;
