@@ -82,6 +82,7 @@ pub fn nested(symbol: u16, times: usize, term: &Term) -> Term {
     (0..times).fold(term.clone(), |inner, _| over(symbol, &[inner]))
 }
 
+#[derive(Clone)]
 pub enum Literal {
     Equal(Term, Term),
     Unequal(Term, Term),

@@ -4,6 +4,7 @@
 //! deep-      chains that fold, and congruences that wake one another
 //! wide-      patterns of four variables
 //! differ-    only differences
+//! follow-    differences that follow, and pairs of rows that do not differ
 //! norm-      for the normaliser
 
 use crate::ledger::{nested, over, rule, Ledger, Literal, Random, Term, FULL};
@@ -56,6 +57,9 @@ pub fn workloads() -> Vec<Workload> {
     }
     for (name, context, literals) in differing() {
         add(&format!("differ-{}", name), &context, &literals);
+    }
+    for (name, context, literals) in following() {
+        add(&format!("follow-{}", name), &context, &literals);
     }
     for (name, context) in
         [("ledger", ledger(Breach::Absent, false)), ("fold", folded()), ("cascade", cascade()), ("full", full())]
@@ -265,6 +269,44 @@ fn differing() -> Vec<(&'static str, Ledger, Vec<Literal>)> {
         ("four-none", three_parts(), four),
         ("over-pairs-none", over_pairs(), open),
     ]
+}
+
+/// A rule of one unequal literal has no breach where no difference is stated. With one, `h(x) = h(y)` shuts its rows out.
+fn following() -> Vec<(&'static str, Ledger, Vec<Literal>)> {
+    let [x, y] = [0, 1].map(variable);
+    let of = |symbol: u16, term: &Term| over(symbol, &[term.clone()]);
+    let unequal = || Unequal(x.clone(), y.clone());
+    let never = || vec![unequal(), Equal(of(H, &x), of(H, &y))];
+    let payees = vec![Equal(of(WORK, &x), of(WORK, &y)), Unequal(of(PAYEE, &x), of(PAYEE, &y))];
+    vec![
+        ("unrelated-none", unrelated(false), vec![unequal()]),
+        ("one-symbol-none", chain(&[]), vec![unequal()]),
+        ("unrelated-stated-none", unrelated(true), never()),
+        ("over-constants-stated-none", over_constants(), never()),
+        ("payees-none", ledger(Breach::Absent, true), payees.clone()),
+        ("payees-late", ledger(Breach::Late, true), payees),
+    ]
+}
+
+/// Rows that no other row is over; `stated`: the last two are different.
+fn unrelated(stated: bool) -> Ledger {
+    let mut ledger = Ledger::default();
+    ledger.rows(CONSTANTS, FULL);
+    if stated {
+        ledger.part(FULL - 2, FULL - 1);
+    }
+    ledger
+}
+
+/// One symbol over each of many constants, and two other rows that are different: no two constants are.
+fn over_constants() -> Ledger {
+    let mut ledger = Ledger::default();
+    let others = ledger.rows(0xF000, 2);
+    ledger.part(others[0], others[1]);
+    for constant in ledger.rows(CONSTANTS, ledger.left() / 2) {
+        ledger.row(F, &[constant]);
+    }
+    ledger
 }
 
 /// The last rows, in two parts that differ from one another: no three rows are pairwise apart.

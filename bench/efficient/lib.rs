@@ -1,7 +1,9 @@
 //! An efficient finder and normaliser, unproved: what a good implementation costs. One pass over the bytes, congruence closure
-//! by a work list, and a search that narrows the candidates of the variables before each choice.
+//! by a work list, and a search that narrows the candidates of the variables before each choice. What differs by what follows is
+//! asked last, and once for each pair.
 
 pub mod closing;
+mod differing;
 pub mod model;
 pub mod narrow;
 pub mod plain;

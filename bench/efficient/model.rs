@@ -1,7 +1,10 @@
 //! A closed context, laid out for a search.
 
+use std::cell::RefCell;
+
 use crate::closing::{over_classes, signature, Signatures};
-use crate::sets::{insert, Set, EMPTY};
+use crate::differing::Differing;
+use crate::sets::{has, insert, Set, EMPTY};
 use crate::text::{Text, NO_ROW};
 
 /// A symbol over classes is in a class.
@@ -20,6 +23,10 @@ pub struct Model {
     pub facts: Vec<Fact>,
     /// The classes that are kept apart from a class.
     pub apart: Vec<Set>,
+    /// The classes that are arguments, where there is a difference at all: two others differ only if they are kept apart.
+    pub arguments: Set,
+    /// Made when it is first asked.
+    differing: RefCell<Option<Box<Differing>>>,
 }
 
 impl Model {
@@ -30,6 +37,8 @@ impl Model {
             signatures: Signatures::with_room_for(text.rows.len()),
             facts: Vec::with_capacity(text.rows.len()),
             apart: vec![EMPTY; text.rows.len()],
+            arguments: EMPTY,
+            differing: RefCell::new(None),
         };
         model.enter_rows(text, &representatives);
         for (left, right) in &text.differences {
@@ -47,6 +56,9 @@ impl Model {
                 insert(&mut self.all, class);
             }
             let arguments = over_classes(row, representatives);
+            if !text.differences.is_empty() {
+                arguments[..row.count as usize].iter().for_each(|class| insert(&mut self.arguments, *class));
+            }
             if self.signatures.put(signature(row.symbol, arguments), class) == NO_ROW {
                 self.facts.push(Fact { symbol: row.symbol, class, arguments });
             }
@@ -59,5 +71,19 @@ impl Model {
         let first = self.facts.partition_point(|fact| fact.symbol < symbol);
         let more = self.facts[first..].iter().take_while(|fact| fact.symbol == symbol).count();
         (first as u16, (first + more) as u16)
+    }
+
+    /// Whether the equation of two classes would make the sides of a stated difference equal.
+    #[inline(always)]
+    pub fn differ(&self, left: u16, right: u16) -> bool {
+        has(&self.apart[left as usize], right)
+            || left != right && has(&self.arguments, left) && has(&self.arguments, right) && self.follows(left, right)
+    }
+
+    #[inline(never)]
+    fn follows(&self, left: u16, right: u16) -> bool {
+        let mut differing = self.differing.borrow_mut();
+        let differing = differing.get_or_insert_with(|| Box::new(Differing::of(&self.facts, &self.apart)));
+        differing.ask(&self.facts, &self.signatures, left, right)
     }
 }

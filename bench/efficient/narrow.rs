@@ -2,7 +2,7 @@
 //! and read downward again, until nothing changes. What is left out is in no breach.
 
 use crate::model::{Fact, Model};
-use crate::sets::{add_all, both, has, insert, size, Set, EMPTY};
+use crate::sets::{add_all, both, has, insert, rows, size, Set, EMPTY};
 use crate::text::{Text, NO_VARIABLE};
 use crate::values::rows_under;
 
@@ -118,7 +118,7 @@ impl<'a> Narrowing<'a> {
         outside && one.symbol == other.symbol && one.arguments().zip(other.arguments()).all(|(a, b)| self.equate(possible, a, b))
     }
 
-    /// Instances kept apart are in classes: cuts those of `right` to what is apart from some class of `left`.
+    /// Instances that differ are in classes: cuts those of `right` to what differs from some class of `left`.
     fn keep_apart(&self, possible: &mut Possible, left: usize, right: usize) -> bool {
         let mut apart = EMPTY;
         for (word, bits) in possible.classes[left].into_iter().enumerate() {
@@ -128,9 +128,23 @@ impl<'a> Narrowing<'a> {
                 open &= open - 1;
             }
         }
+        if self.model.arguments != EMPTY {
+            self.add_following(&mut apart, &possible.classes[left], &possible.classes[right]);
+        }
         possible.classes[right] = both(&possible.classes[right], &apart);
         possible.set_outside(right, false);
         possible.classes[right] != EMPTY
+    }
+
+    /// Adds the classes of `right` that differ from one of `left` by what follows.
+    #[inline(never)]
+    fn add_following(&self, apart: &mut Set, left: &Set, right: &Set) {
+        let others = both(left, &self.model.arguments);
+        for class in rows(&both(right, &self.model.arguments)) {
+            if !has(apart, class) && rows(&others).any(|other| self.model.differ(class, other)) {
+                insert(apart, class);
+            }
+        }
     }
 
     /// Whether a candidate was left out; none where a variable or a pattern row has nothing left.

@@ -3,7 +3,6 @@
 
 use crate::closing::signature;
 use crate::model::Model;
-use crate::sets::has;
 use crate::text::{Literal, Text, NO_ROW, NO_VARIABLE};
 
 /// Values from here on are instances outside the table.
@@ -106,7 +105,7 @@ impl<'a> Values<'a> {
         if literal.equal {
             return left == right;
         }
-        left < OUTSIDE && right < OUTSIDE && has(&self.model.apart[left as usize], right)
+        left < OUTSIDE && right < OUTSIDE && self.model.differ(left, right)
     }
 }
 

@@ -92,9 +92,35 @@ pub fn add_literals(random: &mut Random, text: &mut Text, failing: usize) {
         return add_any_literals(random, text);
     }
     let assignment = some_rows(random, text.rows.len().max(1), variables);
-    let (good, bad) = sorted_literals(text, &assignment);
+    add_literals_under(random, text, &assignment, failing);
+}
+
+/// Literals that hold under an assignment of which some variables have the rows of a pair; one of them at least differs by what follows.
+pub fn add_following_literals(random: &mut Random, text: &mut Text, pair: (usize, usize)) {
+    let mut assignment = some_rows(random, text.rows.len(), variables(&text.patterns));
+    let sides = if random.one_in(2) { [pair.0, pair.1] } else { [pair.1, pair.0] };
+    for (row, side) in assignment.iter_mut().zip(sides) {
+        *row = side;
+    }
+    let (good, _) = sorted_literals(text, &assignment);
+    let mut terms = Terms::of(text);
+    let mut by_more = |literal: &&Literal| {
+        let sides = terms.sides(text, literal, &assignment);
+        !literal.equal && sides.map_or(false, |(left, right)| !terms.kept_apart(text, left, right))
+    };
+    let following: Vec<Literal> = good.iter().filter(|literal| by_more(literal)).cloned().collect();
+    if !following.is_empty() {
+        text.literals.push(random.pick(&following).clone());
+    }
+    if !random.one_in(3) {
+        add_literals_under(random, text, &assignment, 0);
+    }
+}
+
+fn add_literals_under(random: &mut Random, text: &mut Text, assignment: &[usize], failing: usize) {
+    let (good, bad) = sorted_literals(text, assignment);
     for _ in 0..random.within(1, 5) {
-        let earlier = some_earlier_rows(random, &assignment);
+        let earlier = some_earlier_rows(random, assignment);
         let (_, excluding) = sorted_literals(text, &earlier);
         let both: Vec<Literal> = good.iter().filter(|literal| excluding.contains(literal)).cloned().collect();
         let choice = if both.is_empty() { &good } else { &both };

@@ -5,8 +5,8 @@ use crate::listing;
 use crate::programs::Programs;
 use crate::random::Random;
 use reference::breach::{first_breach, first_breach_anew};
-use reference::text::{read, Refusal};
-use reference::{find, find_prints, normalise, normalise_prints, Found};
+use reference::text::Refusal;
+use reference::{find, find_prints, normalise, normalise_prints, rule, Found};
 
 /// What stands in a lent byte, and in a row's place, before a call.
 const WATCH: u8 = 0xA5;
@@ -116,8 +116,8 @@ fn normaliser_difference(text: &[u8], space: usize) -> Option<String> {
 
 /// The reference against itself, closing anew under each assignment, where that is not too long.
 fn reference_difference(bytes: &[u8]) -> Option<String> {
-    let text = read(bytes).ok()?;
-    if text.rows.len() + text.patterns.len() > 24 || text.literals.is_empty() {
+    let text = rule(bytes).ok()?;
+    if text.rows.len() + text.patterns.len() > 24 {
         return None;
     }
     let (once, anew) = (first_breach(&text), first_breach_anew(&text));

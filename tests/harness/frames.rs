@@ -65,7 +65,10 @@ pub fn is_conclusion(line: &[u8]) -> bool {
 /// A step between rows or instances that are there; half of the time between a term and itself.
 pub fn any_step(random: &mut Random, text: &Text) -> Vec<u8> {
     let mut frame = step_line(&Step::default());
-    KIND.set(&mut frame, random.within(1, 5));
+    KIND.set(&mut frame, random.within(1, 6));
+    if random.one_in(4) {
+        OWNER.set(&mut frame, random.within(1, text.literals.len() + 1));
+    }
     for (mark, row) in MARKS.into_iter().zip(ROWS) {
         let instance = random.below(2);
         let rows = if instance == 0 { text.rows.len() } else { text.patterns.len() };
@@ -118,6 +121,19 @@ impl Input {
     /// The places of the lines of a sort.
     pub fn places(&self, sort: fn(&[u8]) -> bool) -> Vec<usize> {
         (0..self.lines.len()).filter(|place| sort(&self.lines[*place])).collect()
+    }
+
+    /// Puts a step behind the others, so that no number changes, and gives its own.
+    pub fn add_step(&mut self, frame: Vec<u8>) -> usize {
+        let place = self.lines.iter().rposition(|line| !is_conclusion(line)).map_or(0, |last| last + 1);
+        self.lines.insert(place, frame);
+        self.number_of(place)
+    }
+
+    /// The frame of a step by its number.
+    pub fn step(&self, number: usize) -> Option<&Vec<u8>> {
+        let mut steps = self.lines.iter().filter(|line| !is_conclusion(line));
+        steps.nth(number.checked_sub(1)?).filter(|line| is_step(line))
     }
 
     /// The number of a step line; those that are no conclusions are counted.

@@ -1,9 +1,10 @@
 //! The texts of a seed: what each one is aimed at, and how it is made.
 
-use crate::clause::{add_any_literals, add_literals, add_patterns};
+use crate::clause::{add_any_literals, add_following_literals, add_literals, add_patterns};
 use crate::context::context;
 use crate::damage::{faulty, fill, garbage, long, many_faults, spoilt, LIMITS};
 use crate::draft::{bytes_of, draft_of, shuffle_statements};
+use crate::follow::{clash_together, context_that_follows, fill_statements, follows, has_outside, outside, together};
 use crate::random::Random;
 use reference::breach::{assignments, variables, Terms};
 use reference::closing::close;
@@ -17,6 +18,14 @@ pub enum Aim {
     Breach,
     /// The same, with variable 0 in the last half of the rows.
     LateBreach,
+    /// A breach in which an unequal literal holds by so many levels of congruence or more.
+    Follows(usize),
+    /// The same, with as many equations or differences as there may be.
+    FollowsFull,
+    /// No breach, though two unequal literals would clash together.
+    Together,
+    /// An unequal literal with an instance outside the table.
+    Outside,
     /// No breach, though some literal holds under some assignment.
     None,
     /// Any reply to a text without a faulty line.
@@ -36,11 +45,16 @@ pub enum Aim {
 }
 
 /// Of a hundred texts, how many have which aim.
-const SHARES: [(Aim, usize); 18] = [
-    (Aim::Breach, 22),
-    (Aim::LateBreach, 8),
-    (Aim::None, 28),
-    (Aim::Any, 8),
+const SHARES: [(Aim, usize); 23] = [
+    (Aim::Breach, 17),
+    (Aim::LateBreach, 7),
+    (Aim::Follows(1), 5),
+    (Aim::Follows(2), 4),
+    (Aim::FollowsFull, 1),
+    (Aim::Together, 2),
+    (Aim::Outside, 2),
+    (Aim::None, 24),
+    (Aim::Any, 4),
     (Aim::Refusal(1), 2),
     (Aim::Refusal(2), 2),
     (Aim::Refusal(3), 2),
@@ -84,6 +98,14 @@ pub fn text_of(random: &mut Random, aim: Aim) -> Vec<u8> {
 fn attempt(random: &mut Random, aim: Aim) -> Vec<u8> {
     let text = match aim {
         Aim::Breach | Aim::LateBreach => ruled(random, 2, 0),
+        Aim::Follows(levels) => following(random, levels),
+        Aim::FollowsFull => {
+            let mut text = following(random, 1);
+            fill_statements(random, &mut text);
+            text
+        }
+        Aim::Together => together(random),
+        Aim::Outside => ruled_outside(random),
         Aim::None => almost_ruled(random),
         Aim::Refusal(8) => without_literals(random),
         Aim::Refusal(9) => contradicting(random),
@@ -102,13 +124,18 @@ fn attempt(random: &mut Random, aim: Aim) -> Vec<u8> {
 }
 
 fn meets(bytes: &[u8], aim: Aim) -> bool {
+    let text = || read(bytes).expect("a text without a fault");
     match (aim, find(bytes)) {
+        (Aim::Follows(least), Found::Breach(rows)) => follows(&text(), &rows).levels >= least,
+        (Aim::FollowsFull, Found::Breach(rows)) => follows(&text(), &rows).levels > 0,
+        (Aim::Together, Found::None) => clash_together(&text()),
+        (Aim::Outside, Found::None | Found::Breach(_)) => has_outside(&text()),
         (Aim::Breach, Found::Breach(rows)) => rows.len() >= 2,
         (Aim::LateBreach, Found::Breach(rows)) => rows.len() >= 2 && late(bytes, &rows),
         (Aim::None, Found::None) => some_literal_holds(bytes),
         (Aim::Refusal(number), Found::Refused(refused)) => refused.number == number,
-        (Aim::Breach | Aim::LateBreach | Aim::None | Aim::Refusal(_), _) => false,
-        _ => true,
+        (Aim::Any | Aim::ManyFaults | Aim::Spoilt | Aim::Limits | Aim::Garbage | Aim::Long, _) => true,
+        _ => false,
     }
 }
 
@@ -161,6 +188,24 @@ fn ruled(random: &mut Random, least: usize, failing: usize) -> Text {
     let most = if random.one_in(30) { 50 } else { 8 };
     add_patterns(random, &mut text, variables, most);
     add_literals(random, &mut text, failing);
+    text
+}
+
+/// A context in which differences follow, by so many levels or some more, and a rule that needs one of them.
+fn following(random: &mut Random, levels: usize) -> Text {
+    let variables = random.within(1, 4);
+    let most = rows_for(random, variables);
+    let levels = levels + random.below(2);
+    let (mut text, pair) = context_that_follows(random, most, levels);
+    add_patterns(random, &mut text, variables, 6);
+    add_following_literals(random, &mut text, pair);
+    text
+}
+
+/// Differences that follow, and a rule of terms that are hardly ever in the table.
+fn ruled_outside(random: &mut Random) -> Text {
+    let (mut text, _) = context_that_follows(random, 12, 1);
+    outside(random, &mut text);
     text
 }
 

@@ -9,8 +9,9 @@ use reference::grounds::{conclusion_in, parts_of, step_in, verify_prints, Conclu
 use reference::text::{read, Pattern, Text};
 use reference::{find, find_prints, found_line, rule, Found};
 
-/// The most steps that are written for a breach.
-const MOST_STEPS: usize = 16_384;
+/// The most steps that are written for a breach: as many shared ones, and as many of each unequal literal; and the most in all.
+const MOST_OF_OWNER: usize = 16_384;
+const MOST_STEPS: usize = 278_528;
 /// So many spoilt inputs are made of one.
 const SPOILT: usize = 3;
 const ACCEPTED: &[u8] = b"0B00\n";
@@ -23,8 +24,9 @@ pub struct Tried {
     pub input: Option<Vec<u8>>,
     /// The reference's replies to the inputs.
     pub replies: Vec<Vec<u8>>,
-    /// How many steps were written, where there is a breach.
+    /// How many steps were written, where there is a breach, and the most for one literal of its own.
     pub steps: Option<usize>,
+    pub owned_steps: usize,
 }
 
 /// A text through `grounds`, and through `verify` inputs that are made of it.
@@ -42,7 +44,9 @@ pub fn tried(random: &mut Random, text: &[u8], programs: &Programs) -> Tried {
     let printed = programs.printed("grounds", text);
     tried.said.extend(writer_differences(text, &printed));
     if let (Ok(printed), Found::Breach(_)) = (printed, found) {
-        tried.steps = Some(parts_of(&printed).steps.len());
+        let steps = parts_of(&printed).steps;
+        tried.steps = Some(steps.len());
+        tried.owned_steps = (1..=u8::MAX).map(|owner| of_owner(&steps, owner)).max().unwrap_or(0);
         tried.verify_with_spoilt(random, Input::printed(text, &printed), spoil_frames, programs);
     }
     tried
@@ -129,11 +133,16 @@ fn faults(bytes: &[u8], printed: &[u8]) -> Vec<String> {
     ask(steps.len() + conclusions.len() == frames.len(), "a line that is neither a step nor, behind these, a conclusion");
     ask(conclusions.iter().map(|one| one.literal).eq(1..=text.literals.len()), "not a conclusion for each literal in order");
     ask(steps.len() <= MOST_STEPS, "too many steps");
+    ask((0..=u8::MAX).all(|owner| of_owner(&steps, owner) <= MOST_OF_OWNER), "too many steps of one owner");
     let written = Parts { text: bytes.to_vec(), places: parts_of(&first).places, steps, conclusions };
     ask(zero_where_unread(&text, &written), "a number that is not read is not 0");
     ask(all_cited(&written), "a step that nothing cites");
     ask(verify_prints(&[bytes, printed].concat()) == ACCEPTED, "the reference does not accept them");
     said
+}
+
+fn of_owner(steps: &[Step], owner: u8) -> usize {
+    steps.iter().filter(|step| step.owner == owner).count()
 }
 
 /// How many of a step's numbers are read.
@@ -159,7 +168,7 @@ fn zero_where_unread(text: &Text, written: &Parts) -> bool {
     let in_step = |step: &Step| step.numbers[numbers_read(text, &written.places, step)..].iter().all(|number| *number == 0);
     let in_conclusion = |one: &Conclusion| {
         let equal = text.literals.get(one.literal - 1).map_or(false, |literal| literal.equal);
-        !equal || (one.second, one.difference, one.orientation) == (0, 0, 0)
+        (one.second, one.orientation) == (0, 0) && (!equal || one.difference == 0)
     };
     written.steps.iter().all(in_step) && written.conclusions.iter().all(in_conclusion)
 }
@@ -167,8 +176,8 @@ fn zero_where_unread(text: &Text, written: &Parts) -> bool {
 /// Each step is cited by a later step or by a conclusion.
 fn all_cited(written: &Parts) -> bool {
     let mut cited = vec![false; written.steps.len() + 1];
-    let by_steps = written.steps.iter().filter(|step| step.kind >= 3).flat_map(|step| step.numbers);
-    let by_conclusions = written.conclusions.iter().flat_map(|one| [one.first, one.second]);
+    let by_steps = written.steps.iter().filter(|step| (3..=5).contains(&step.kind)).flat_map(|step| step.numbers);
+    let by_conclusions = written.conclusions.iter().map(|one| one.first);
     for number in by_steps.chain(by_conclusions) {
         cited[number.min(written.steps.len())] |= number <= written.steps.len();
     }

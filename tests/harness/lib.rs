@@ -19,6 +19,7 @@ mod context;
 mod damage;
 mod draft;
 mod edges;
+mod follow;
 mod frames;
 mod generate;
 mod grounds;

@@ -4,13 +4,15 @@ use crate::damage::spoilt;
 use crate::frames::{any_step, give_left_name, is_conclusion, is_step, Field, Input};
 use crate::frames::{CITED, DIFFERENCE, KIND, LITERAL, MARKS, NAMES, NUMBERS, ORIENTATION, OWNER, ROWS};
 use crate::random::Random;
+use reference::grounds::{Name, Step};
 use reference::text::{read, Text};
+use reference::writing::step_line;
 use reference::INPUT_LIMIT;
 
 type Change = fn(&mut Random, &mut Input);
 
 /// Changes of the frames.
-const IN_FRAMES: [Change; 24] = [
+const IN_FRAMES: [Change; 31] = [
     byte_changed,
     line_dropped,
     lines_exchanged,
@@ -18,8 +20,15 @@ const IN_FRAMES: [Change; 24] = [
     line_moved,
     off_by_one,
     off_by_one,
-    orientation_turned,
+    difference_turned,
     owner_named,
+    owner_named,
+    owner_exchanged,
+    owned_copy,
+    added_step,
+    added_step,
+    conclusions_exchanged,
+    conclusions_exchanged,
     kind_changed,
     mark_changed,
     row_changed,
@@ -123,19 +132,94 @@ fn off_by_one(random: &mut Random, input: &mut Input) {
     }
 }
 
-fn orientation_turned(random: &mut Random, input: &mut Input) {
-    let turned = *random.pick(&[1, 1, 1, 1, 2, 3, 0x80, 0xFE]);
-    if let Some(line) = some_line(random, input, is_conclusion) {
-        let orientation = ORIENTATION.of(line) ^ turned;
-        ORIENTATION.set(line, orientation);
+/// The numbers of the literals of a sort.
+fn literals(text: &Text, equal: bool) -> Vec<usize> {
+    (1..=text.literals.len()).filter(|number| text.literals[number - 1].equal == equal).collect()
+}
+
+/// An owner: mostly 0 or the number of an unequal literal, else of an equal one or of none.
+fn some_owner(random: &mut Random, text: &Text) -> usize {
+    let (equal, unequal) = (literals(text, true), literals(text, false));
+    match random.below(8) {
+        0 | 1 => 0,
+        2 | 3 | 4 if !unequal.is_empty() => *random.pick(&unequal),
+        5 | 6 if !equal.is_empty() => *random.pick(&equal),
+        _ => *random.pick(&[1, text.literals.len() + 1, 16, 17, 0x80, 0xFF]),
     }
 }
 
+/// A step behind the others that turns round the one which a conclusion cites, for the conclusion to cite instead.
+fn difference_turned(random: &mut Random, input: &mut Input) {
+    let Some(place) = some_place(random, input, is_conclusion) else { return };
+    let (literal, cited) = (LITERAL.of(&input.lines[place]), CITED[0].of(&input.lines[place]));
+    let Some(mut turned) = input.step(cited).cloned() else { return };
+    let [left, right] = NAMES.map(|name| name.of(&turned));
+    NAMES[0].set(&mut turned, right);
+    NAMES[1].set(&mut turned, left);
+    KIND.set(&mut turned, 3);
+    NUMBERS[0].set(&mut turned, cited);
+    NUMBERS[1..].iter().for_each(|number| number.set(&mut turned, 0));
+    cite_new_step(input, literal, turned);
+}
+
+/// Puts a step behind the others and has a literal's conclusions cite it.
+fn cite_new_step(input: &mut Input, literal: usize, frame: Vec<u8>) {
+    let number = input.add_step(frame);
+    let of_literal = |line: &&mut Vec<u8>| is_conclusion(line) && LITERAL.of(line) == literal;
+    input.lines.iter_mut().filter(of_literal).for_each(|line| CITED[0].set(line, number));
+}
+
 fn owner_named(random: &mut Random, input: &mut Input) {
-    let owner = *random.pick(&[1, 1, 2, 16, 17, 0x80, 0xFF]);
+    let owner = some_owner(random, &text_of(input));
     if let Some(line) = some_line(random, input, is_step) {
         OWNER.set(line, owner);
     }
+}
+
+/// Every step of one owner given to another.
+fn owner_exchanged(random: &mut Random, input: &mut Input) {
+    let to = some_owner(random, &text_of(input));
+    let Some(line) = some_line(random, input, |line| is_step(line) && OWNER.of(line) != 0) else { return };
+    let from = OWNER.of(line);
+    let of_owner = |line: &&mut Vec<u8>| is_step(line) && OWNER.of(line) == from;
+    input.lines.iter_mut().filter(of_owner).for_each(|line| OWNER.set(line, to));
+}
+
+/// A conclusion's step again under another owner, for the conclusion to cite instead.
+fn owned_copy(random: &mut Random, input: &mut Input) {
+    let owner = some_owner(random, &text_of(input));
+    let Some(place) = some_place(random, input, is_conclusion) else { return };
+    let (literal, cited) = (LITERAL.of(&input.lines[place]), CITED[0].of(&input.lines[place]));
+    let Some(mut copy) = input.step(cited).cloned() else { return };
+    OWNER.set(&mut copy, owner);
+    cite_new_step(input, literal, copy);
+}
+
+/// A step of kind 06 between the instances of some literal, in its order or turned, under its own number or another.
+fn added_step(random: &mut Random, input: &mut Input) {
+    let text = text_of(input);
+    if text.literals.is_empty() {
+        return;
+    }
+    let number = random.within(1, text.literals.len());
+    let (left, right) = text.literals[number - 1].sides;
+    let owner = if random.one_in(2) { number } else { some_owner(random, &text) };
+    let instance = |row: usize| Name { mark: 1, row };
+    let mut step = Step { owner: owner as u8, kind: 6, left: instance(left), right: instance(right), numbers: [0; 4] };
+    if random.one_in(4) {
+        std::mem::swap(&mut step.left, &mut step.right);
+    }
+    input.add_step(step_line(&step));
+}
+
+/// Two conclusions change their literals.
+fn conclusions_exchanged(random: &mut Random, input: &mut Input) {
+    let (Some(place), Some(other)) = (some_place(random, input, is_conclusion), some_place(random, input, is_conclusion)) else {
+        return;
+    };
+    let (one, two) = (LITERAL.of(&input.lines[place]), LITERAL.of(&input.lines[other]));
+    LITERAL.set(&mut input.lines[place], two);
+    LITERAL.set(&mut input.lines[other], one);
 }
 
 fn kind_changed(random: &mut Random, input: &mut Input) {
@@ -179,7 +263,7 @@ fn sides_exchanged(random: &mut Random, input: &mut Input) {
 /// The fields in which a frame cites steps.
 fn citing(line: &[u8]) -> &'static [Field] {
     match KIND.of(line) {
-        _ if is_conclusion(line) => &CITED,
+        _ if is_conclusion(line) => &CITED[..1],
         3 => &NUMBERS[..1],
         4 => &NUMBERS[..2],
         5 => &NUMBERS,
@@ -250,13 +334,13 @@ fn unread_filled(random: &mut Random, input: &mut Input) {
     let read = match KIND.of(line) {
         _ if is_conclusion(line) => {
             let literal = text.literals.get(LITERAL.of(line).wrapping_sub(1));
-            if literal.map_or(true, |literal| literal.equal) {
-                random.pick(&[CITED[1], DIFFERENCE, ORIENTATION]).set(line, value);
-            }
+            let unequal = literal.map_or(false, |literal| !literal.equal);
+            let fields = [DIFFERENCE, CITED[1], ORIENTATION];
+            random.pick(&fields[usize::from(unequal)..]).set(line, value);
             return;
         }
         1 | 3 => 1,
-        2 => 0,
+        2 | 6 => 0,
         4 => 2,
         _ => NUMBERS.iter().rposition(|number| number.of(line) != 0).map_or(0, |last| last + 1),
     };

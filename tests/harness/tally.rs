@@ -1,5 +1,6 @@
 //! How many texts had which reply, and whether each kind had its share.
 
+use crate::follow::{clash_together, follows, has_outside};
 use crate::generate::{late, some_literal_holds};
 use crate::grounds::Tried;
 use crate::programs::Programs;
@@ -14,6 +15,7 @@ pub struct Tally {
     many_breaches: usize,
     telling_none: usize,
     late_breaches: usize,
+    following: Following,
     /// Texts that some reply refused by this number.
     refusals: [usize; 12],
     sizes: Sizes,
@@ -22,6 +24,21 @@ pub struct Tally {
     /// Breaches for which grounds were written, and the most steps.
     grounded: usize,
     steps: usize,
+    owned_steps: usize,
+}
+
+/// Texts by how their unequal literals hold, or do not.
+#[derive(Default)]
+struct Following {
+    /// Breaches that need more than a stated difference: all of them, and those that need so much more.
+    breaches: usize,
+    two_levels: usize,
+    by_equations: usize,
+    full: usize,
+    /// None, though two unequal literals would clash together.
+    together: usize,
+    /// An instance of an unequal literal outside the table.
+    outside: usize,
 }
 
 const JUDGED: [&str; 5] = ["accepted", "a variable without a row", "a bad step", "a literal not concluded", "refused"];
@@ -63,6 +80,7 @@ impl Tally {
         }
         self.grounded += usize::from(tried.steps.is_some());
         self.steps = self.steps.max(tried.steps.unwrap_or(0));
+        self.owned_steps = self.owned_steps.max(tried.owned_steps);
     }
 
     fn count(&mut self, reply: &str) {
@@ -70,7 +88,9 @@ impl Tally {
     }
 
     fn add_found(&mut self, text: &[u8], refused: &mut [bool; 12]) {
-        match find(text) {
+        let found = find(text);
+        self.following.add(text, &found);
+        match found {
             Found::Breach(rows) => {
                 self.many_breaches += usize::from(rows.len() >= 2);
                 self.late_breaches += usize::from(late(text, &rows));
@@ -110,6 +130,16 @@ impl Tally {
         }
     }
 
+    fn print_following(&self) {
+        let following = &self.following;
+        println!(
+            "{:8}  breaches need more than a stated difference: {} two levels of congruence or more, {} a stated equation, {} among 255 statements",
+            following.breaches, following.two_levels, following.by_equations, following.full
+        );
+        println!("{:8}  none, though two unequal literals would clash together", following.together);
+        println!("{:8}  texts have an unequal literal with an instance outside the table", following.outside);
+    }
+
     pub fn print(&self) {
         for (reply, count) in &self.replies {
             println!("{:8}  {}", count, reply);
@@ -117,7 +147,11 @@ impl Tally {
         for (said, count) in JUDGED.iter().zip(self.judged) {
             println!("{:8}  verify: {}", count, said);
         }
-        println!("{:8}  breaches with grounds, of {} steps at most", self.grounded, self.steps);
+        println!(
+            "{:8}  breaches with grounds, of {} steps at most, {} of one literal's own",
+            self.grounded, self.steps, self.owned_steps
+        );
+        self.print_following();
         println!("{:8}  breaches are late: variable 0 has a row of the last half", self.late_breaches);
         let sizes = &self.sizes;
         println!(
@@ -136,6 +170,13 @@ impl Tally {
         };
         ask("are breaches with two or more variables".into(), self.many_breaches, 4);
         ask("are none with a literal that holds somewhere".into(), self.telling_none, 4);
+        let following = &self.following;
+        ask("are breaches that need more than a stated difference".into(), following.breaches, 20);
+        ask("are breaches that need two levels of congruence or more".into(), following.two_levels, 40);
+        ask("are breaches that need a stated equation besides".into(), following.by_equations, 50);
+        ask("are breaches of this kind among 255 equations or differences".into(), following.full, 200);
+        ask("are none though two unequal literals would clash together".into(), following.together, 80);
+        ask("have an unequal literal with an instance outside the table".into(), following.outside, 20);
         for number in 1..=if programs.there() { 11 } else { 10 } {
             ask(format!("are refused by {}", number), self.refusals[number], 100);
         }
@@ -149,5 +190,23 @@ impl Tally {
             }
         }
         missed
+    }
+}
+
+impl Following {
+    fn add(&mut self, bytes: &[u8], found: &Found) {
+        let Ok(text) = read(bytes) else { return };
+        match found {
+            Found::Refused(_) => return,
+            Found::None => self.together += usize::from(clash_together(&text)),
+            Found::Breach(rows) => {
+                let how = follows(&text, rows);
+                self.breaches += usize::from(how.levels > 0);
+                self.two_levels += usize::from(how.levels > 1);
+                self.by_equations += usize::from(how.by_equations);
+                self.full += usize::from(how.levels > 0 && text.equations.len().max(text.differences.len()) == 255);
+            }
+        }
+        self.outside += usize::from(has_outside(&text));
     }
 }

@@ -1,7 +1,9 @@
 //! Breaches: every assignment in order, every literal under each.
 
-use crate::closing::{alike, apart, close};
-use crate::text::{Literal, Pair, Pattern, Row, Text};
+use std::collections::HashMap;
+
+use crate::closing::{alike, apart, close, differ};
+use crate::text::{Literal, Pattern, Row, Text};
 
 /// The highest variable number plus 1, or 0.
 pub fn variables(patterns: &[Pattern]) -> usize {
@@ -51,12 +53,14 @@ pub struct Terms {
     terms: Vec<Row>,
     class: Vec<usize>,
     rows: usize,
+    /// Pairs of classes of rows, the lower first, and whether they differ.
+    asked: HashMap<(usize, usize), bool>,
 }
 
 impl Terms {
     pub fn of(text: &Text) -> Terms {
         let class = close(&text.rows, &text.equations);
-        Terms { terms: text.rows.clone(), class, rows: text.rows.len() }
+        Terms { terms: text.rows.clone(), class, rows: text.rows.len(), asked: HashMap::new() }
     }
 
     /// A term that is alike to none of the others is in a class of its own, and adding it joins no others.
@@ -86,8 +90,38 @@ impl Terms {
     /// Which literals hold.
     pub fn holding(&mut self, text: &Text, assignment: &[usize]) -> Vec<bool> {
         let instances = self.instances(&text.patterns, assignment);
-        let holds = |literal| holds(&self.class, &text.differences, literal, &instances);
-        text.literals.iter().map(holds).collect()
+        text.literals.iter().map(|literal| self.holds(text, literal, &instances)).collect()
+    }
+
+    fn holds(&mut self, text: &Text, literal: &Literal, instances: &[usize]) -> bool {
+        let (left, right) = (self.class[instances[literal.sides.0]], self.class[instances[literal.sides.1]]);
+        if literal.equal {
+            left == right
+        } else {
+            self.classes_differ(text, left, right)
+        }
+    }
+
+    /// Asked once for each pair. An instance outside every row's class differs from nothing: its equation makes no two rows equal.
+    fn classes_differ(&mut self, text: &Text, left: usize, right: usize) -> bool {
+        let (low, high) = (left.min(right), left.max(right));
+        if high >= self.rows {
+            return false;
+        }
+        let pair = (low, high);
+        *self.asked.entry(pair).or_insert_with(|| differ(&text.rows, &text.equations, &text.differences, low, high))
+    }
+
+    /// The rows of the two instances of a literal, where both are in a row's class.
+    pub fn sides(&mut self, text: &Text, literal: &Literal, assignment: &[usize]) -> Option<(usize, usize)> {
+        let instances = self.instances(&text.patterns, assignment);
+        let (left, right) = (self.class[instances[literal.sides.0]], self.class[instances[literal.sides.1]]);
+        (left.max(right) < self.rows).then_some((left, right))
+    }
+
+    /// Whether a stated difference keeps two rows apart.
+    pub fn kept_apart(&self, text: &Text, left: usize, right: usize) -> bool {
+        apart(&self.class, &text.differences, left, right)
     }
 }
 
@@ -95,15 +129,6 @@ impl Terms {
 fn over(pattern: &Row, instances: &[usize]) -> Row {
     let arguments = pattern.arguments.iter().map(|row| instances[*row]).collect();
     Row { symbol: pattern.symbol, arguments }
-}
-
-fn holds(class: &[usize], differences: &[Pair], literal: &Literal, instances: &[usize]) -> bool {
-    let (left, right) = (instances[literal.sides.0], instances[literal.sides.1]);
-    if literal.equal {
-        class[left] == class[right]
-    } else {
-        apart(class, differences, left, right)
-    }
 }
 
 /// The first assignment under which every literal holds.
@@ -143,5 +168,12 @@ fn breach_anew(text: &Text, assignment: &[usize]) -> bool {
         }
     }
     let class = close(&terms, &text.equations);
-    text.literals.iter().all(|literal| holds(&class, &text.differences, literal, &instances))
+    text.literals.iter().all(|literal| {
+        let (left, right) = (instances[literal.sides.0], instances[literal.sides.1]);
+        if literal.equal {
+            class[left] == class[right]
+        } else {
+            differ(&terms, &text.equations, &text.differences, left, right)
+        }
+    })
 }

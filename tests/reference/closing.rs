@@ -13,7 +13,7 @@ pub fn close(terms: &[Row], equations: &[Pair]) -> Vec<usize> {
 }
 
 /// Puts two classes under the lower of their names.
-fn merge(class: &mut [usize], left: usize, right: usize) {
+pub fn merge(class: &mut [usize], left: usize, right: usize) {
     let kept = class[left].min(class[right]);
     let gone = class[left].max(class[right]);
     for name in class.iter_mut().filter(|name| **name == gone) {
@@ -42,7 +42,13 @@ pub fn alike(class: &[usize], left: &Row, right: &Row) -> bool {
         && left.arguments.iter().zip(&right.arguments).all(|(a, b)| class[*a] == class[*b])
 }
 
-/// Kept apart: a stated difference, up to equality, in either orientation.
+/// Whether two terms differ: one equation more, that of the two, would make the sides of a stated difference equal.
+pub fn differ(terms: &[Row], equations: &[Pair], differences: &[Pair], left: usize, right: usize) -> bool {
+    let more = [equations, &[(left, right)]].concat();
+    first_clash(&close(terms, &more), differences).is_some()
+}
+
+/// Kept apart: a stated difference, up to equality, in either orientation. Terms that are kept apart differ.
 pub fn apart(class: &[usize], differences: &[Pair], left: usize, right: usize) -> bool {
     let equal = |a: usize, b: usize| class[a] == class[b];
     differences.iter().any(|&(p, q)| (equal(left, p) && equal(right, q)) || (equal(left, q) && equal(right, p)))

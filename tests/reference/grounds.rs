@@ -116,9 +116,17 @@ impl<'a> Terms<'a> {
         Some((self.named(step.left)?, self.named(step.right)?))
     }
 
-    /// The sides of step `number`, counted from 1.
-    fn cited(&self, steps: &[Step], number: usize) -> Option<(usize, usize)> {
-        self.sides(steps.get(number.checked_sub(1)?)?)
+    /// The sides of step `number`, counted from 1, for an owner to cite: a shared step, or one of its own.
+    fn cited(&self, steps: &[Step], number: usize, owner: u8) -> Option<(usize, usize)> {
+        let step = steps.get(number.checked_sub(1)?)?;
+        let open = step.owner == 0 || step.owner == owner;
+        self.sides(step).filter(|_| open)
+    }
+
+    /// The instances of a literal, counted from 1, if it is an unequal one.
+    fn unequal(&self, number: u8) -> Option<(usize, usize)> {
+        let literal = self.text.literals.get(usize::from(number).checked_sub(1)?)?;
+        (!literal.equal).then(|| (self.instances[literal.sides.0], self.instances[literal.sides.1]))
     }
 
     /// The terms of a stated pair, counted from 1.
@@ -127,46 +135,44 @@ impl<'a> Terms<'a> {
         Some((self.rows[*left], self.rows[*right]))
     }
 
+    /// The owner is 0, or the number of an unequal literal.
     fn follows(&self, earlier: &[Step], step: &Step) -> bool {
         let Some((left, right)) = self.sides(step) else { return false };
         let [first, second, ..] = step.numbers;
+        let cited = |number: usize| self.cited(earlier, number, step.owner);
         let reason = match step.kind {
             1 => self.stated(&self.text.equations, first) == Some((left, right)),
             2 => left == right,
-            3 => self.cited(earlier, first) == Some((right, left)),
-            4 => match (self.cited(earlier, first), self.cited(earlier, second)) {
+            3 => cited(first) == Some((right, left)),
+            4 => match (cited(first), cited(second)) {
                 (Some((from, middle)), Some((other, to))) => from == left && middle == other && to == right,
                 _ => false,
             },
-            5 => self.congruent(earlier, step.numbers, left, right),
+            5 => self.congruent(earlier, step, left, right),
+            6 => self.unequal(step.owner) == Some((left, right)),
             _ => false,
         };
-        step.owner == 0 && reason
+        (step.owner == 0 || self.unequal(step.owner).is_some()) && reason
     }
 
-    fn congruent(&self, earlier: &[Step], numbers: [usize; 4], left: usize, right: usize) -> bool {
+    fn congruent(&self, earlier: &[Step], step: &Step, left: usize, right: usize) -> bool {
         let (left, right) = (&self.made[left], &self.made[right]);
         let pairs = left.arguments.iter().zip(&right.arguments);
         left.symbol == right.symbol
             && left.arguments.len() == right.arguments.len()
-            && pairs.zip(numbers).all(|((a, b), number)| self.cited(earlier, number) == Some((*a, *b)))
+            && pairs.zip(step.numbers).all(|((a, b), number)| self.cited(earlier, number, step.owner) == Some((*a, *b)))
     }
 
-    /// The first conclusion for a literal counts.
+    /// The first conclusion for a literal counts. An equal literal cites a shared step, an unequal one a shared step or one of its own.
     fn concluded(&self, steps: &[Step], conclusions: &[Conclusion], index: usize) -> bool {
         let literal = &self.text.literals[index];
         let (left, right) = (self.instances[literal.sides.0], self.instances[literal.sides.1]);
         let Some(given) = conclusions.iter().find(|conclusion| conclusion.literal == index + 1) else { return false };
         if literal.equal {
-            return self.cited(steps, given.first) == Some((left, right));
+            return self.cited(steps, given.first, 0) == Some((left, right));
         }
-        let Some((p, q)) = self.stated(&self.text.differences, given.difference) else { return false };
-        let (to, other) = match given.orientation {
-            0 => (p, q),
-            1 => (q, p),
-            _ => return false,
-        };
-        self.cited(steps, given.first) == Some((left, to)) && self.cited(steps, given.second) == Some((right, other))
+        let difference = self.stated(&self.text.differences, given.difference);
+        difference.is_some() && self.cited(steps, given.first, index as u8 + 1) == difference
     }
 }
 

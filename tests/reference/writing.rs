@@ -1,6 +1,7 @@
 //! A writer of grounds, as docs/GROUNDS.md lets anybody write them: a naive closing that remembers why two terms were joined, and
-//! the way from one term to another over what was joined. Which steps are written is free. Where there are several ways, `choose`
-//! is asked with their number; 0 each time gives the plain grounds, in which every step is cited.
+//! the way from one term to another over what was joined. For an unequal literal its own equation is added, the closing goes on,
+//! and afterwards all that is forgotten. Which steps are written is free. Where there are several ways, `choose` is asked with their
+//! number; 0 each time gives the plain grounds, in which every step is cited.
 
 use std::collections::HashMap;
 
@@ -18,14 +19,16 @@ enum Reason {
     Same,
     Stated(usize),
     Congruent,
+    Added,
 }
 
-/// Two terms that were in two classes when they were joined.
+/// Two terms that were in two classes when they were joined, and for whom.
 #[derive(Clone, Copy)]
 struct Join {
     left: usize,
     right: usize,
     reason: Reason,
+    owner: u8,
 }
 
 /// The terms are the context rows, then the instances of the pattern rows; a variable's instance is its row again.
@@ -33,11 +36,14 @@ struct Writer<'a> {
     choose: Choose<'a>,
     rows: usize,
     terms: Vec<Row>,
+    /// For whom terms are joined: 0, or the number of an unequal literal.
+    owner: u8,
     class: Vec<usize>,
     /// The joins at each term.
     joins: Vec<Vec<Join>>,
     steps: Vec<Step>,
-    written: HashMap<(usize, usize), usize>,
+    /// The steps of each owner.
+    written: HashMap<(u8, usize, usize), usize>,
 }
 
 /// Steps, and a conclusion for each literal that holds under the assignment.
@@ -61,7 +67,7 @@ impl<'a> Writer<'a> {
         let terms: Vec<Row> = text.rows.iter().cloned().chain(text.patterns.iter().map(instance)).collect();
         let class = (0..terms.len()).collect();
         let joins = vec![Vec::new(); terms.len()];
-        Writer { choose, rows, terms, class, joins, steps: Vec::new(), written: HashMap::new() }
+        Writer { choose, rows, terms, owner: 0, class, joins, steps: Vec::new(), written: HashMap::new() }
     }
 
     /// Once in so many, and never in plain grounds.
@@ -76,8 +82,9 @@ impl<'a> Writer<'a> {
             return false;
         }
         self.class.iter_mut().filter(|class| **class == gone).for_each(|class| *class = kept);
-        self.joins[left].push(Join { left, right, reason });
-        self.joins[right].push(Join { left, right, reason });
+        let join = Join { left, right, reason, owner: self.owner };
+        self.joins[left].push(join);
+        self.joins[right].push(join);
         true
     }
 
@@ -137,58 +144,63 @@ impl<'a> Writer<'a> {
         }
     }
 
-    fn write(&mut self, kind: u8, (left, right): (usize, usize), cited: &[usize]) -> usize {
+    fn write(&mut self, owner: u8, kind: u8, (left, right): (usize, usize), cited: &[usize]) -> usize {
         let mut numbers = [0; 4];
         numbers[..cited.len()].copy_from_slice(cited);
-        self.steps.push(Step { owner: 0, kind, left: self.name(left), right: self.name(right), numbers });
+        self.steps.push(Step { owner, kind, left: self.name(left), right: self.name(right), numbers });
         self.steps.len()
     }
 
-    /// The number of a step from one term to another of its class.
-    fn step(&mut self, left: usize, right: usize) -> usize {
-        let written = self.written.get(&(left, right)).copied();
+    /// The number of a step from one term to another of its class, for an owner to cite: a shared one, unless what it needs was joined
+    /// for the owner; at times one of the owner's all the same.
+    fn step(&mut self, owner: u8, left: usize, right: usize) -> usize {
+        let way = self.way(left, right);
+        let owned = owner != 0 && (way.iter().any(|(join, _)| join.owner != 0) || self.at_times(6));
+        let owner = if owned { owner } else { 0 };
+        let written = self.written.get(&(owner, left, right)).copied();
         if let Some(number) = written.filter(|_| !self.at_times(8)) {
             return number;
         }
-        let mut number = self.new_step(left, right);
+        let mut number = self.new_step(owner, left, right, &way);
         if self.at_times(12) {
-            let still = self.write(2, (right, right), &[]);
-            number = self.write(4, (left, right), &[number, still]);
+            let still = self.write(owner, 2, (right, right), &[]);
+            number = self.write(owner, 4, (left, right), &[number, still]);
         }
-        self.written.insert((left, right), number);
+        self.written.insert((owner, left, right), number);
         number
     }
 
-    fn new_step(&mut self, left: usize, right: usize) -> usize {
-        let way = self.way(left, right);
-        match way[..] {
-            [] => self.write(2, (left, right), &[]),
+    fn new_step(&mut self, owner: u8, left: usize, right: usize, way: &[(Join, usize)]) -> usize {
+        match way {
+            [] => self.write(owner, 2, (left, right), &[]),
             [(join, _)] if self.at_times(3) => {
-                let turned = self.over(join, right, left);
-                self.write(3, (left, right), &[turned])
+                let turned = self.over(owner, *join, right, left);
+                self.write(owner, 3, (left, right), &[turned])
             }
-            [(join, _)] => self.over(join, left, right),
+            [(join, _)] => self.over(owner, *join, left, right),
             _ => {
                 let (_, middle) = way[(self.choose)(way.len() - 1)];
-                let cited = [self.step(left, middle), self.step(middle, right)];
-                self.write(4, (left, right), &cited)
+                let cited = [self.step(owner, left, middle), self.step(owner, middle, right)];
+                self.write(owner, 4, (left, right), &cited)
             }
         }
     }
 
     /// A step over one join, in either direction.
-    fn over(&mut self, join: Join, left: usize, right: usize) -> usize {
+    fn over(&mut self, owner: u8, join: Join, left: usize, right: usize) -> usize {
+        let forward = left == join.left;
         match join.reason {
-            Reason::Same => self.write(2, (left, right), &[]),
-            Reason::Stated(number) if left == join.left => self.write(1, (left, right), &[number]),
-            Reason::Stated(number) => {
-                let stated = self.write(1, (right, left), &[number]);
-                self.write(3, (left, right), &[stated])
+            Reason::Same => self.write(owner, 2, (left, right), &[]),
+            Reason::Stated(number) if forward => self.write(owner, 1, (left, right), &[number]),
+            Reason::Added if forward => self.write(owner, 6, (left, right), &[]),
+            Reason::Stated(_) | Reason::Added => {
+                let turned = self.over(owner, join, right, left);
+                self.write(owner, 3, (left, right), &[turned])
             }
             Reason::Congruent => {
                 let pairs = self.terms[left].arguments.clone().into_iter().zip(self.terms[right].arguments.clone());
-                let cited: Vec<usize> = pairs.map(|(a, b)| self.step(a, b)).collect();
-                self.write(5, (left, right), &cited)
+                let cited: Vec<usize> = pairs.map(|(a, b)| self.step(owner, a, b)).collect();
+                self.write(owner, 5, (left, right), &cited)
             }
         }
     }
@@ -197,20 +209,27 @@ impl<'a> Writer<'a> {
         let (left, right) = (self.rows + literal.sides.0, self.rows + literal.sides.1);
         if literal.equal {
             let holds = self.class[left] == self.class[right];
-            return holds.then(|| Conclusion { literal: number, first: self.step(left, right), ..Conclusion::default() });
+            return holds.then(|| Conclusion { literal: number, first: self.step(0, left, right), ..Conclusion::default() });
         }
-        let equal = |a: usize, b: usize| self.class[a] == self.class[b];
-        let mut ways = Vec::new();
-        for (index, &(p, q)) in text.differences.iter().enumerate() {
-            ways.extend((equal(left, p) && equal(right, q)).then_some((index + 1, 0, p, q)));
-            ways.extend((equal(left, q) && equal(right, p)).then_some((index + 1, 1, q, p)));
-        }
-        if ways.is_empty() {
+        let (class, joins) = (self.class.clone(), self.joins.clone());
+        self.owner = number as u8;
+        self.join(left, right, Reason::Added);
+        while self.join_alike() {}
+        let conclusion = self.clash(text, number);
+        (self.owner, self.class, self.joins) = (0, class, joins);
+        conclusion
+    }
+
+    /// A stated difference with equal sides.
+    fn clash(&mut self, text: &Text, number: usize) -> Option<Conclusion> {
+        let clashing = |(_, (p, q)): &(usize, &(usize, usize))| self.class[*p] == self.class[*q];
+        let clashes: Vec<(usize, &(usize, usize))> = text.differences.iter().enumerate().filter(clashing).collect();
+        if clashes.is_empty() {
             return None;
         }
-        let (difference, orientation, to, other) = ways[(self.choose)(ways.len())];
-        let (first, second) = (self.step(left, to), self.step(right, other));
-        Some(Conclusion { literal: number, first, second, difference, orientation })
+        let (index, (p, q)) = clashes[(self.choose)(clashes.len())];
+        let first = self.step(self.owner, *p, *q);
+        Some(Conclusion { literal: number, first, difference: index + 1, ..Conclusion::default() })
     }
 }
 

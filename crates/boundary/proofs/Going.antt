@@ -1,5 +1,5 @@
 -- A caller who begins with the first breach and goes on, each time from the four rows handed over, until there is none, gets the list of all breaches
--- made of representatives, each once and in order.
+-- made of representatives, each once and in order. A context with a breach or none does not contradict itself.
 --     first-own                    the first breach is made of representatives
 --     follows-goes, goes-lists     going on gives the list, and what it gives is the list
 -- Assumes nothing.
@@ -9,10 +9,9 @@ use Prim.Native.Nat.{ℕ, _-_}
 use native.Mathlib.Omega.{arith}
 use lib.ListN.{length, take, replicate}
 use lib.Seq.{take-at}
-use Rattle.meaning.specs.Context.{Context, differences}
-use Rattle.meaning.specs.Equality.{Representatives}
+use Rattle.meaning.specs.Context.{Context}
+use Rattle.meaning.specs.Equality.{Consistent, Representatives}
 use Rattle.meaning.specs.Rules.{Clause, variables, Before, First, Found, Answers}
-use Rattle.meaning.specs.ByTable.{apartBy}
 use Rattle.meaning.specs.FirstBy.{firstBy}
 use Rattle.meaning.specs.Formed.{Formed}
 use Rattle.meaning.specs.Replies.{breach, placesOf}
@@ -24,19 +23,20 @@ use Rattle.meaning.proofs.Order.{same-first}
 use Rattle.meaning.proofs.Promised.{closing-represents}
 use Rattle.meaning.proofs.Listing.{Nexts, enumerates-goes, goes-enumerates}
 use Rattle.meaning.proofs.ListingNext.{first-sought, own-sought}
+use Rattle.meaning.proofs.FollowingNumbers.{widerBy}
 use Rattle.finder.specs.Following.{FollowsIn}
 
-module _ (c : Context) (k : Clause) (formed : Formed c k) where
+module _ (c : Context) (k : Clause) (formed : Formed c k) (free : Consistent c) where
   represents : Representatives c (repOf c)
   represents = closing-represents c (formed .fit)
 
   pub first-own : (r : Found) → Answers c k r → First (OwnBreach c k) r
   first-own r w =
       let n : ℕ = length (c .rows) in
-      let f : Found = firstBy (apartBy (repOf c) (differences c)) (c .rows) (repOf c) n k in
-      let e : r ≡ f = answers-one c k r f w (computed-first c k formed (repOf c) represents n (omega arith)) in
+      let f : Found = firstBy (widerBy c) (c .rows) (repOf c) n k in
+      let e : r ≡ f = answers-one c k r f w (computed-first c k formed free (repOf c) represents n (omega arith)) in
       subst (First (OwnBreach c k)) (sym e)
-      (same-first (own-sought c k formed (repOf c) represents n (omega arith)) f (first-sought (apartBy (repOf c) (differences c)) (c .rows) (repOf c) n k))
+      (same-first (own-sought c k formed free (repOf c) represents n (omega arith)) f (first-sought (widerBy c) (c .rows) (repOf c) n k))
 
   module _ (onward : List ℕ → Found) (each : (a : List ℕ) → FollowsIn c k (placesOf (breach a)) (onward a)) where
     placed-front : (a : List ℕ) → length a ≡ variables (k .patterns) → take (variables (k .patterns)) (placesOf (breach a)) ≡ a

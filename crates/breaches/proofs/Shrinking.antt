@@ -16,6 +16,7 @@ use Rattle.listing.specs.Filling.{doneBy, Fills}
 use Rattle.listing.specs.declared.Filled.{Filled}
 use Rattle.listing.specs.declared.State.{State}
 use Rattle.listing.proofs.Ending.{leftOf, fill-falls}
+use Rattle.listing.proofs.Output.{opened-lent}
 use Rattle.breaches.specs.Shrinks.{Shrinks}
 
 pub piece-shrinks : (c : ContextColumns) (t : List ℕ) (k : ClauseColumns) (s : State) (r : Filled) (after : List ℕ)
@@ -28,4 +29,4 @@ pub turn-less : (c : ContextColumns) (t : List ℕ) (k : ClauseColumns) (s u : S
 turn-less c t k s u b e n h =
     h .fewer (λ d. absurd (let z : false ≡ true = sym (not-true b n) ∙ e ∙ ap doneBy d in let y : _≡_ {A = ℕ} 0 1 = cc in omega arith))
 
-pub ruleset mine = (needs, piece-shrinks, turn-less)
+pub ruleset mine = (needs, opened-lent, piece-shrinks, turn-less)

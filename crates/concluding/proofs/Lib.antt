@@ -1,4 +1,3 @@
 -- The root of the laws.
-pub mod Endings
+pub mod Sayings
 pub mod Literals
-pub mod Places

@@ -1,4 +1,3 @@
--- The root of the laws: words; steps in columns; conclusions.
+-- The root of the laws: words; steps in columns.
 pub mod Wording
 pub mod Emitting
-pub mod Concluding

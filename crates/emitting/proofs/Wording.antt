@@ -9,7 +9,7 @@ use lib.ListN.{length, getD, List·getD-eq-default}
 use borrow.Author.Needs.{needs}
 use borrow.Author.Tests.{lt-ltb, le-ltb, eq-eqb, ne-eqb}
 use Rattle.grounding.specs.Draft.{refOf}
-use Rattle.grounding.specs.Sweeping.{newOf, newIn, wordIn}
+use Rattle.batches.specs.Sending.{newOf, newIn, wordIn}
 use Rattle.emitting.specs.Emitting.{MarkOf, RowOf}
 
 module _ (news : List ℕ) (r : ℕ) {i : ℕ} (e : i ≡ r) where
@@ -50,9 +50,9 @@ module _ (rows x : ℕ) {i : ℕ} where
   unfolding refOf
   row-pattern h e l = record { value = rw (le-ltb x rows (subst (λ (j : ℕ). rows ≤ j) e h), refOf) (ap (λ (j : ℕ). j - rows) e); most = omega arith }
 
-pub word-in : (rows kind x y : ℕ) {n k mark row mark′ row′ : ℕ} → n ≡ rows → k ≡ kind → MarkOf n x mark → RowOf n x row → MarkOf n y mark′ → RowOf n y row′
-    → k * 281474976710656 + (mark * 1099511627776 + row * 16777216) + (mark′ * 65536 + row′) ≡ wordIn rows kind x y
-word-in rows kind x y d e f g h l = rw (sym d, sym e, sym (f .value), sym (g .value), sym (h .value), sym (l .value)) (omega arith)
+pub word-in : (rows owner kind x y : ℕ) {n o k mark row mark′ row′ : ℕ} → n ≡ rows → o ≡ owner → k ≡ kind → MarkOf n x mark → RowOf n x row → MarkOf n y mark′ → RowOf n y row′
+    → o * 72057594037927936 + k * 281474976710656 + (mark * 1099511627776 + row * 16777216) + (mark′ * 65536 + row′) ≡ wordIn rows owner kind x y
+word-in rows owner kind x y d c e f g h l = rw (sym d, sym c, sym e, sym (f .value), sym (g .value), sym (h .value), sym (l .value)) (omega arith)
 
 pub ruleset mine = (
   needs,

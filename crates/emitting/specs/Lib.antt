@@ -1,3 +1,2 @@
 -- The root of the definitions.
 pub mod Emitting
-pub mod Ends

@@ -1,9 +1,15 @@
-// Words of 64 bits: a step's sides in one, and its numbers in two.
+// Words of 64 bits: a step's owner, kind and sides in one, and its numbers in two.
 use numbering::numbers::wide;
 ghost use mathlib.Core.Path.{_≡_};
-ghost use Prim.Native.Nat.{_<_};
-ghost use Rattle.grounding.specs.Sweeping.{newOf, newIn, wordIn, numbersWord};
+ghost use Prim.Native.Nat.{_≤_, _<_};
+ghost use Rattle.batches.specs.Sending.{newOf, newIn, wordIn, numbersWord};
 ghost use Rattle.emitting.specs.Emitting.{MarkOf, RowOf};
+
+fn long8(x: u8) -> u64
+    ensures { λ r. ⌜ r ≡ x ⌝ }
+{
+    x as u64
+}
 
 fn long(x: u16) -> u64
     ensures { λ r. ⌜ (r ≡ x) × (r < 65536) ⌝ }
@@ -11,31 +17,37 @@ fn long(x: u16) -> u64
     x as u64
 }
 
+fn long32(x: u32) -> u64
+    ensures { λ r. ⌜ (r ≡ x) × (r < 4294967296) ⌝ }
+{
+    x as u64
+}
+
 // A step's new number; step 0 is none.
-pub(crate) fn new_of(news: &[u16; 16385], r: u16) -> u16
+fn new_of(news: &[u32; 16385], r: u16) -> u32
     ensures { λ q. ⌜ q ≡ newOf (now (news .entry)) r ⌝ }
 {
     let i = wide(r);
     if i == 0 {
         return 0;
     }
-    let places: &[u16] = news;
+    let places: &[u32] = news;
     if i < places.len() { places[i] } else { 0 }
 }
 
 // What a step's number becomes; kinds 1 and 2 cite no step.
-fn new_in(news: &[u16; 16385], kind: u16, r: u16) -> u16
+fn new_in(news: &[u32; 16385], kind: u16, r: u16) -> u32
     ensures { λ q. ⌜ q ≡ newIn (now (news .entry)) kind r ⌝ }
 {
-    if kind <= 2 { r } else { new_of(news, r) }
+    if kind <= 2 { r as u32 } else { new_of(news, r) }
 }
 
 // Two numbers in a word.
-pub(crate) fn numbers_word(news: &[u16; 16385], kind: u16, a: u16, b: u16) -> u64
+pub(crate) fn numbers_word(news: &[u32; 16385], kind: u16, a: u16, b: u16) -> u64
     ensures { λ r. ⌜ r ≡ numbersWord (now (news .entry)) kind a b ⌝ }
 {
-    let high = long(new_in(news, kind, a));
-    let low = long(new_in(news, kind, b));
+    let high = long32(new_in(news, kind, a));
+    let low = long32(new_in(news, kind, b));
     high * 4294967296 + low
 }
 
@@ -61,12 +73,14 @@ fn row_of(rows: u64, x: u16) -> u64
     if i < rows { i } else { i - rows }
 }
 
-// A step's kind and its two sides in a word.
-pub(crate) fn sides_word(rows: usize, kind: u16, x: u16, y: u16) -> u64
-    ensures { λ r. ⌜ r ≡ wordIn rows kind x y ⌝ }
+// A step's owner, its kind and its two sides in a word.
+pub(crate) fn sides_word(rows: usize, owner: u8, kind: u16, x: u16, y: u16) -> u64
+    requires { ⌜ owner ≤ 16 ⌝ }
+    requires { ⌜ kind < 256 ⌝ }
+    ensures { λ r. ⌜ r ≡ wordIn rows owner kind x y ⌝ }
 {
     let n = word(rows);
-    let high = long(kind) * 281474976710656;
+    let high = long8(owner) * 72057594037927936 + long(kind) * 281474976710656;
     let left = mark_of(n, x) * 1099511627776 + row_of(n, x) * 16777216;
     let right = mark_of(n, y) * 65536 + row_of(n, y);
     high + left + right

@@ -11,10 +11,9 @@ use Prim.Native.Nat.{ℕ}
 use native.Mathlib.Omega.{arith}
 use borrow.Author.Needs.{needs}
 use lib.ListN.{take}
-use Rattle.meaning.specs.Context.{Context, differences}
-use Rattle.meaning.specs.Equality.{repAt}
+use Rattle.meaning.specs.Context.{Context}
+use Rattle.meaning.specs.Equality.{repAt, Consistent}
 use Rattle.meaning.specs.Rules.{Clause, variables, Before, Found, found, nothing}
-use Rattle.meaning.specs.ByTable.{apartBy}
 use Rattle.meaning.specs.Text.{narrow, Read}
 use Rattle.meaning.specs.Replies as M
 use Rattle.meaning.specs.Replies.{breach, none, refused, replyOf, placesOf}
@@ -23,10 +22,12 @@ use Rattle.meaning.proofs.Answered.{replies-one}
 use Rattle.meaning.proofs.Order.{same-first, first-one}
 use Rattle.meaning.proofs.Pruned.{Sought}
 use Rattle.meaning.proofs.ListingNext.{next-first, own-sought}
+use Rattle.meaning.proofs.FollowingNumbers.{widerBy}
 use Rattle.ledger.specs.declared.ContextColumns.{ContextColumns}
 use Rattle.ledger.specs.declared.ClauseColumns.{ClauseColumns}
 use Rattle.ledger.specs.declared.Refusal.{Refusal}
 use Rattle.ledger.specs.Phases.{meant}
+use Rattle.differing.proofs.Knowing.{knows-start}
 use Rattle.search.specs.Hunting.{answerOf}
 use Rattle.search.specs.Finding.{foundBy, laterBy, NextIn, next-fits, next-unfits}
 use Rattle.search.specs.declared.Reply.{Reply as Searched}
@@ -36,8 +37,8 @@ use Rattle.finder.specs.declared.Answer.the-variants as A
 use Rattle.finder.specs.declared.Prepared.{Prepared}
 use Rattle.finder.specs.declared.Outcome.{Outcome}
 use Rattle.finder.specs.declared.Reply.{Reply}
-use Rattle.finder.proofs.Preparing.{rows-long, found-never, Stands, ready-stands, ready-asks, ready-replies, refused-answers}
-use Rattle.finder.proofs.Judging.{told-one}
+use Rattle.finder.proofs.Preparing.{rows-long, found-never, Stands, ready-stands, ready-asks, ready-consistent, ready-replies, refused-answers}
+use Rattle.finder.proofs.Judging.{ready-closed, lent, told-one}
 
 pub after-answers : (c : ContextColumns) (t : List ℕ) (k : ClauseColumns) (after : List ℕ) → Asks c k → (r : Searched)
     → NextIn (c .symbols) (c .counts) (c .args) (c .rows) (c .kinds) (c .lefts) (c .rights) (c .statements) t (k .kinds) (k .heads) (k .counts) (k .args) (k .patterns) (k .signs) (k .lefts)
@@ -56,17 +57,17 @@ module _ (text : List ℕ) (p : Prepared) (prepares : Prepares text p) where
   abbrev rep : ℕ → ℕ
   rep = repAt (p .table)
 
-  said-follows : Asks (p .context) (p .clause) → (after : List ℕ) → FollowsIn c k after (laterBy c (p .table) k after)
-  said-follows asks after = same-first (λ a. (λ w. (own a .0 (w .0), w .1), λ w. (own a .1 (w .0), w .1))) (laterBy c (p .table) k after) (next-first (apartBy rep (differences c)) (c .rows) rep 65536 k after)
+  said-follows : Asks (p .context) (p .clause) → Consistent c → (after : List ℕ) → FollowsIn c k after (laterBy c (p .table) k after)
+  said-follows asks free after = same-first (λ a. (λ w. (own a .0 (w .0), w .1), λ w. (own a .1 (w .0), w .1))) (laterBy c (p .table) k after) (next-first (widerBy c) (c .rows) rep 65536 k after)
     where
-      own : (a : List ℕ) → OwnBreach c k a ↔ Sought (apartBy rep (differences c)) (c .rows) rep 65536 k a
-      own a = own-sought c k (asks .formed) rep (prepares .closed .rows) 65536 (omega (arith, rows-long (p .context), asks .held .fit .rows-few)) a
+      own : (a : List ℕ) → OwnBreach c k a ↔ Sought (widerBy c) (c .rows) rep 65536 k a
+      own a = own-sought c k (asks .formed) free rep (prepares .closed .rows) 65536 (omega (arith, rows-long (p .context), asks .held .fit .rows-few)) a
 
   pub ready-follows : p .answer ≡ A.Ready → (after : List ℕ) → FollowsTo text after (replyOf (laterBy c (p .table) k after))
   ready-follows e after =
       let w : Stands text p = ready-stands text p prepares e in
       follows (w .what) (w .whole) (foundBy c (p .table) k) (ready-replies text p prepares e) (laterBy c (p .table) k after)
-      (subst₂ (λ (x : Context) (y : Clause). FollowsIn x y after (laterBy c (p .table) k after)) (w .context) (w .clause) (said-follows (w .asks) after))
+      (subst₂ (λ (x : Context) (y : Clause). FollowsIn x y after (laterBy c (p .table) k after)) (w .context) (w .clause) (said-follows (w .asks) (ready-consistent text p prepares e) after))
 
   pub next-refused : (x : Refusal) → p .answer ≡ A.Refused x → (after : List ℕ) (y : Reply) → y ≡ refusedWith x → Follows text after y
   unfolding refusedWith placesOf
@@ -106,4 +107,4 @@ follows-one text after r s p q =
     let o : r .outcome ≡ s .outcome = told-one (r .outcome) (s .outcome) (p .told ∙ ap toldOf e ∙ sym (q .told)) in
     ap₂ (λ (x : Outcome) (y : List ℕ). record { outcome = x; places = y }) o (p .places ∙ ap placesOf e ∙ sym (q .places))
 
-pub ruleset mine = (needs, after-answers, next-refused, ready-asks, next-found)
+pub ruleset mine = (needs, lent, knows-start, after-answers, next-refused, ready-asks, ready-closed, next-found)

@@ -1,5 +1,6 @@
 -- The ways out of the finder: what is answered to well-formed columns, and to a text.
---     hunt-answers                what the search answers to well-formed columns
+--     lent, hunt-answers          what is lent to the search, and what it answers to well-formed columns
+--     ready-closed                where a rule is ready, the table is the closing
 --     find-refused, find-found    the refusal, and the first breach or none
 --     finds-one                   two replies to one text are equal
 -- Assumes nothing.
@@ -8,6 +9,7 @@ use mathlib.Core.Path.{_≡_, refl, sym, ap, ap₂, _∙_}
 use Prim.Native.Nat.{ℕ}
 use native.Mathlib.Omega.{arith}
 use borrow.Author.Needs.{needs}
+use Rattle.meaning.specs.Equality.{Promise}
 use Rattle.meaning.specs.Rules.{Found, found, nothing}
 use Rattle.meaning.specs.Text.{narrow}
 use Rattle.meaning.specs.Replies.{breach, none, refused, replyOf, placesOf, Replies}
@@ -16,12 +18,14 @@ use Rattle.ledger.specs.declared.ContextColumns.{ContextColumns}
 use Rattle.ledger.specs.declared.ClauseColumns.{ClauseColumns}
 use Rattle.ledger.specs.declared.Refusal.{Refusal}
 use Rattle.ledger.specs.Phases.{meant}
+use Rattle.differing.specs.Knowing.{Lends}
+use Rattle.differing.proofs.Knowing.{knows-start}
 use Rattle.search.specs.Hunting.{answerOf}
 use Rattle.search.specs.Finding.{foundBy, FindsIn, fits, unfits}
 use Rattle.search.specs.declared.Kind.{Kind}
 use Rattle.search.specs.declared.Kind.the-variants as S
 use Rattle.search.specs.declared.Reply.{Reply as Searched}
-use Rattle.finder.specs.Claims.{said, asked, Asks, refusedWith, answeredWith, toldBy, toldOf, Prepares, Finds}
+use Rattle.finder.specs.Claims.{said, asked, MarkedIn, Asks, refusedWith, answeredWith, toldBy, toldOf, Prepares, Finds}
 use Rattle.finder.specs.declared.Answer.the-variants as A
 use Rattle.finder.specs.declared.Prepared.{Prepared}
 use Rattle.finder.specs.declared.Outcome.{Outcome}
@@ -29,6 +33,10 @@ use Rattle.finder.specs.declared.Outcome.the-variants as O
 use Rattle.finder.specs.declared.Reply.{Reply}
 use Rattle.finder.proofs.Holding.{clash-said}
 use Rattle.finder.proofs.Preparing.{ready-asks, ready-replies, refused-answers}
+
+pub lent : (c : ContextColumns) (t marks : List ℕ) → Promise (said c) 255 t → MarkedIn c t marks
+    → Lends (c .symbols) (c .counts) (c .args) (c .rows) (c .kinds) (c .lefts) (c .rights) (c .statements) t marks
+lent c t marks p m = record { closes = λ f. p; marks = m .so .fit }
 
 pub hunt-answers : (c : ContextColumns) (t : List ℕ) (k : ClauseColumns) → Asks c k → (r : Searched)
     → FindsIn (c .symbols) (c .counts) (c .args) (c .rows) (c .kinds) (c .lefts) (c .rights) (c .statements) t (k .kinds) (k .heads) (k .counts) (k .args) (k .patterns) (k .signs) (k .lefts)
@@ -51,6 +59,9 @@ answered-unfit kind places e = rw e
 -- ---- the reply to a text
 
 module _ (text : List ℕ) (p : Prepared) (prepares : Prepares text p) where
+  pub ready-closed : Promise (said (p .context)) 255 (p .table)
+  ready-closed = prepares .closed
+
   pub find-refused : (x : Refusal) → p .answer ≡ A.Refused x → (y : Reply) → y ≡ refusedWith x → Finds text y
   unfolding refusedWith placesOf
   find-refused x e y q =
@@ -89,4 +100,4 @@ finds-one text r s p q =
     let l : r .places ≡ s .places = p .places ∙ ap placesOf e ∙ sym (q .places) in
     ap₂ (λ (x : Outcome) (y : List ℕ). record { outcome = x; places = y }) o l
 
-pub ruleset mine = (needs, clash-said, hunt-answers, answered-breach, answered-clear, answered-unfit, find-refused, ready-asks, find-found)
+pub ruleset mine = (needs, lent, knows-start, clash-said, hunt-answers, answered-breach, answered-clear, answered-unfit, find-refused, ready-asks, ready-closed, find-found)

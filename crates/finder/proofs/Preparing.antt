@@ -2,6 +2,7 @@
 --     unless-eight .. rule-taken       what the parts answer
 --     prepare-low, prepare-done        a contradiction's number is small; what `prepare` promises
 --     Stands, ready-stands             where a rule is ready, the columns say what was read, and it is well-formed
+--     ready-consistent                 it does not contradict itself
 --     ready-replies                    and the first breach by the table, or none, is the finder's reply
 --     prepares-one                     two answers to one text are equal
 -- Assumes nothing.
@@ -114,8 +115,8 @@ module _ (c : ContextColumns) (k : ClauseColumns) (asks : Asks c k) where
   some n e = n (sym (length-literals (k .signs) (k .lefts) (k .rights) (k .literals)) ∙ ap length e)
 
   module _ (t : List ℕ) (promise : Promise (said c) 255 t) where
-    first-answers : Answers (said c) (asked k) (foundBy (said c) t (asked k))
-    first-answers = computed-first (said c) (asked k) (asks .formed) (repAt t) (promise .rows) 65536 (omega (arith, rows-long c, asks .held .fit .rows-few))
+    first-answers : Consistent (said c) → Answers (said c) (asked k) (foundBy (said c) t (asked k))
+    first-answers free = computed-first (said c) (asked k) (asks .formed) free (repAt t) (promise .rows) 65536 (omega (arith, rows-long c, asks .held .fit .rows-few))
 
     module _ (r : Contradiction) (clash : clashing r ≡ clashOf (repAt t) (differences (said c))) (some-literal : k .literals ≡ 0 → ⊥) where
       judged-nine : (n : ℕ) → r ≡ First n → Judged (said c) (asked k) (refused (refusal 9 (n + 1)))
@@ -240,13 +241,16 @@ module _ (text : List ℕ) (p : Prepared) (prepares : Prepares text p) where
   pub ready-asks : p .answer ≡ A.Ready → Asks (p .context) (p .clause)
   ready-asks e = ready-stands e .asks
 
+  pub ready-consistent : p .answer ≡ A.Ready → Consistent (said (p .context))
+  ready-consistent e = subst Consistent (sym (ready-stands e .context)) (ready-stands e .consistent)
+
   pub ready-replies : p .answer ≡ A.Ready → Replies narrow text (replyOf (foundBy (said (p .context)) (p .table) (asked (p .clause))))
   ready-replies e =
       let w : Stands text p = ready-stands e in
       let f : Found = foundBy (said (p .context)) (p .table) (asked (p .clause)) in
       subst (λ (y : M.Reading). RepliesTo y (replyOf f)) (sym (w .whole))
       (answers (w .some) (w .consistent) f
-      (subst₂ (λ (c : Context) (k : Clause). Answers c k f) (w .context) (w .clause) (first-answers (p .context) (p .clause) (w .asks) (p .table) (prepares .closed))))
+      (subst₂ (λ (c : Context) (k : Clause). Answers c k f) (w .context) (w .clause) (first-answers (p .context) (p .clause) (w .asks) (p .table) (prepares .closed) (ready-consistent e))))
 
   pub refused-answers : (x : Refusal) → p .answer ≡ A.Refused x → Replies narrow text (refused (meant x))
   refused-answers x e = go (p .answer) e (prepares .ruled)

@@ -2,6 +2,7 @@
 --     said, asked        the context and the clause that columns say
 --     Held               the context's columns are well-formed
 --     ClosedIn           a closing's answer to them
+--     MarkedIn           the marks of their busy classes, by a table
 --     Asks               and the clause's are, too
 --     refusedWith, answeredWith   the reply that is a refusal, and the one that a search's answer gives
 --     toldBy, toldOf     document 01's number for each reply, with a breach's number of variables, or a refusal's number, place and byte
@@ -25,6 +26,7 @@ use Rattle.reader.specs.Reads.{contextOf, clauseIn}
 use Rattle.closing.specs.Claims.{Closes}
 use Rattle.closing.specs.declared.Classes.{Classes}
 use Rattle.columns.specs.Fit.{FitContext, FitClause}
+use Rattle.further.specs.Marks.{MarksOf}
 use Rattle.search.specs.declared.Kind.{Kind}
 use Rattle.search.specs.declared.Kind.the-variants as S
 use Rattle.ledger.specs.declared.ContextColumns.{ContextColumns}
@@ -51,6 +53,9 @@ pub record Held (c : ContextColumns) : Type 0 where
 -- a closing's answer to the columns
 pub record ClosedIn (c : ContextColumns) (r : Classes) : Type 0 where
   pub closes : Closes (c .symbols) (c .counts) (c .args) (c .rows) (c .kinds) (c .lefts) (c .rights) (c .statements) (r .answer) (r .table)
+
+pub record MarkedIn (c : ContextColumns) (table marks : List ℕ) : Type 0 where
+  pub so : MarksOf (c .symbols) (c .counts) (c .args) (c .rows) (c .kinds) (c .lefts) (c .rights) (c .statements) table marks
 
 -- the columns of a context and of a clause are well-formed, and so is what they say
 pub record Asks (c : ContextColumns) (k : ClauseColumns) : Type 0 where

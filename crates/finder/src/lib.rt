@@ -7,12 +7,12 @@ use ledger::Refusal;
 use search::Kind;
 ghost use mathlib.Core.Path.{_≡_};
 ghost use Rattle.meaning.specs.Context.{differences};
-ghost use Rattle.meaning.specs.Equality.{repAt};
+ghost use Rattle.meaning.specs.Equality.{repAt, Promise};
 ghost use Rattle.meaning.specs.ByTable.{clashOf};
 ghost use Rattle.search.specs.Hunting.{answerOf};
 ghost use Rattle.search.specs.Finding.{foundBy, laterBy};
 ghost use Rattle.closing.specs.Claims.{clashing};
-ghost use Rattle.finder.specs.Claims.{said, asked, ClosedIn, Asks, refusedWith, answeredWith, Prepares, Finds};
+ghost use Rattle.finder.specs.Claims.{said, asked, ClosedIn, MarkedIn, Asks, refusedWith, answeredWith, Prepares, Finds};
 ghost use Rattle.finder.specs.Following.{Follows};
 ghost use Rattle.finder.specs.Ruling.{Low, unlessEmpty, judgedBy, ruledBy};
 
@@ -79,16 +79,13 @@ pub fn contradiction(c: ContextColumns, table: [u16; 255]) -> Contradiction
     closing::clash(&c.kinds, &c.lefts, &c.rights, statements, &table)
 }
 
-// The first breach by a table.
-pub fn hunt(c: ContextColumns, table: [u16; 255], k: ClauseColumns) -> search::Reply
-    requires { ⌜ Asks c k ⌝ }
-    ensures { λ r. ⌜ r ≡ answerOf (foundBy (said c) table (asked k)) ⌝ }
+// The marks of the busy classes of a context, by a table.
+pub fn busy(c: ContextColumns, table: [u16; 255]) -> [u8; 255]
+    ensures marks { λ r. ⌜ MarkedIn c table r ⌝ }
 {
     let rows = c.rows;
     let statements = c.statements;
-    let patterns = k.patterns;
-    let literals = k.literals;
-    search::find_in(
+    further::busy_classes(
         &c.symbols,
         &c.counts,
         &c.args,
@@ -98,6 +95,34 @@ pub fn hunt(c: ContextColumns, table: [u16; 255], k: ClauseColumns) -> search::R
         &c.rights,
         statements,
         &table,
+    )
+}
+
+// The first breach. The table is the context's closing.
+pub fn hunt(c: ContextColumns, table: [u16; 255], k: ClauseColumns) -> search::Reply
+    requires { ⌜ Asks c k ⌝ }
+    requires { ⌜ Promise (said c) 255 table ⌝ }
+    ensures { λ r. ⌜ r ≡ answerOf (foundBy (said c) table (asked k)) ⌝ }
+{
+    let rows = c.rows;
+    let statements = c.statements;
+    let patterns = k.patterns;
+    let literals = k.literals;
+    let marks = busy(c, table);
+    let mut known = differing::unknown();
+    search::find_with(
+        &c.symbols,
+        &c.counts,
+        &c.args,
+        rows,
+        &c.kinds,
+        &c.lefts,
+        &c.rights,
+        statements,
+        &table,
+        &table,
+        &marks,
+        &mut known,
         &k.kinds,
         &k.heads,
         &k.counts,
@@ -110,7 +135,7 @@ pub fn hunt(c: ContextColumns, table: [u16; 255], k: ClauseColumns) -> search::R
     )
 }
 
-// The first breach by a table, after an assignment.
+// The first breach after an assignment. The table is the context's closing.
 fn hunt_after(
     c: ContextColumns,
     table: [u16; 255],
@@ -118,13 +143,16 @@ fn hunt_after(
     after: [u16; 4],
 ) -> search::Reply
     requires { ⌜ Asks c k ⌝ }
+    requires { ⌜ Promise (said c) 255 table ⌝ }
     ensures { λ r. ⌜ r ≡ answerOf (laterBy (said c) table (asked k) after) ⌝ }
 {
     let rows = c.rows;
     let statements = c.statements;
     let patterns = k.patterns;
     let literals = k.literals;
-    search::next_in(
+    let marks = busy(c, table);
+    let mut known = differing::unknown();
+    search::next_with(
         &c.symbols,
         &c.counts,
         &c.args,
@@ -134,6 +162,9 @@ fn hunt_after(
         &c.rights,
         statements,
         &table,
+        &table,
+        &marks,
+        &mut known,
         &k.kinds,
         &k.heads,
         &k.counts,

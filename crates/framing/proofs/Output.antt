@@ -1,7 +1,7 @@
 -- The ways out of `open`, and what its line is.
 --     line-told                             the line of the writer's outcome is that of its reply
 --     opened-long, opened-written           an input that is too long; the writer's answer
---     opened-found                          with space for 16,384 steps the line is the finder program's
+--     opened-found                          with space for 278,528 steps the line is the finder program's
 --     opened-steps                          and every step is printed
 --     opened-alone                          without a breach nothing is printed after the line
 -- Assumes nothing.

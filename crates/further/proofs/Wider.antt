@@ -1,6 +1,6 @@
 -- Whether the equation of two rows makes the sides of some stated difference equal, by the cheap tests and by closing further.
 --     free-consistent     where no stated difference has one representative the context does not contradict itself
---     clashes-differs     from a context's table and marks a yes says that the two rows differ, in the wider sense
+--     clashes-differs     from a context's table and marks a yes says that the two rows differ
 --     mine                what `follows` and `clashes_ready` leave to show
 -- Assumes nothing.
 use mathlib.Core.Bool.{Bool, true, false, not}
@@ -15,10 +15,11 @@ use borrow.Author.Needs.{needs}
 use borrow.Author.Tests.{eqb-true, not-true, not-false}
 use Rattle.meaning.specs.Context.{termAt, Context, differences, differencesOf}
 use Rattle.meaning.specs.Equality.{Consistent, Representatives, Promise, repAt}
+use Rattle.meaning.specs.Rules.{Differ}
 use Rattle.meaning.specs.Formed.{Fit}
 use Rattle.meaning.specs.ByTable.{clashOf, apartBy}
 use Rattle.meaning.specs.Columns.{rowsFrom, statementsFrom, contextFrom}
-use Rattle.meaning.specs.Following.{withEquation, DifferWider, followsBy, occursBy}
+use Rattle.meaning.specs.Following.{withEquation, followsBy, occursBy}
 use Rattle.meaning.proofs.Logic.{or-none, false-true}
 use Rattle.meaning.proofs.Promised.{model-rows}
 use Rattle.meaning.proofs.FollowingTable.{followsBy-true, follows-first, follows-clear}
@@ -145,11 +146,11 @@ module _ (symbols counts args : List ℕ) (n : ℕ) (kinds lefts rights : List �
   text = contextFrom symbols counts args n kinds lefts rights m
 
   pub clashes-differs : (t busy : List ℕ) → Promise text 255 t → Marks text t busy → (x y : ℕ) → x < n → y < n → (r : Bool)
-      → ClashesWith symbols counts args n kinds lefts rights m t busy x y r → DifferWider text (termAt (text .rows) x) (termAt (text .rows) y) ↔ (r ≡ true)
+      → ClashesWith symbols counts args n kinds lefts rights m t busy x y r → Differ text (termAt (text .rows) x) (termAt (text .rows) y) ↔ (r ≡ true)
   unfolding contextFrom
   clashes-differs t busy p k x y hx hy r w =
       let long : length (text .rows) ≡ n = length-rows symbols counts args n in
-      let d : DifferWider text (termAt (text .rows) x) (termAt (text .rows) y) ↔ (widerBy text x y ≡ true) =
+      let d : Differ text (termAt (text .rows) x) (termAt (text .rows) y) ↔ (widerBy text x y ≡ true) =
       widerBy-rows text (fit .fit) x y (omega arith) (omega arith) in
       (λ z. w .wider fit p k ∙ d .0 z, λ e. d .1 (sym (w .wider fit p k) ∙ e))
 

@@ -3,6 +3,7 @@
 --     same-made, bridge-made    a step for two entries with one label; for two labels
 --     Moved, moved-sound        the entries with one label have another
 --     Joined, joined-sound      the smaller of two classes has moved
+--     sound-owned               classes of shared steps are those of a run after them
 -- Assumes nothing.
 use mathlib.Core.Bool.{Bool, true, false}
 use mathlib.Core.List.{List}
@@ -21,7 +22,8 @@ use Rattle.meaning.proofs.Cited.{Ready}
 use Rattle.meaning.proofs.Progress.{move, move-cases}
 use Rattle.grounding.specs.Draft.{countIn, Written, turned, linked}
 use Rattle.grounding.specs.Classes.{labelIn, whyIn, State, upto, ownStep, same, bridge, sizeIn, carry, carried, moved, joined}
-use Rattle.grounding.proofs.Builds.{all, Steps, Shows, Grown, Made, grown-none, grown-then, grown-most, turned-made, linked-made}
+use Rattle.grounding.proofs.Drafts.{Under}
+use Rattle.grounding.proofs.Builds.{Run, shared-run, all, Steps, Shows, Grown, Made, grown-none, grown-then, grown-most, turned-made, linked-made, steps-owned, shows-owned}
 
 pub size-most : (table : List ℕ) (p n : ℕ) → sizeIn table p n ≤ n
 unfolding sizeIn
@@ -53,16 +55,16 @@ module _ (table : List ℕ) (z q v : ℕ) (long : length table ≡ 638) (hz : z 
   pub why-other : (j : ℕ) → (j ≡ z → ⊥) → whyIn fresh j ≡ whyIn table j
   why-other j d = getD-set-other (set table z q) (319 + z) (319 + j) v 0 (λ e. d (omega arith)) ∙ getD-set-other table z (319 + j) q 0 (λ e. omega arith)
 
-module _ (c : Context) (k : Clause) (a : List ℕ) (ns : List ℕ) (ready : Ready c k a ns) where
+module _ (c : Context) (k : Clause) (a : List ℕ) (ns : List ℕ) (ready : Ready c k a ns) (run : Run c k a) where
   abbrev N : ℕ
   N = all c k a ns ready
 
   abbrev Show : List ℕ → ℕ → ℕ → ℕ → Type 0
-  Show = Shows c k a ns ready
+  Show = Shows c k a ns ready run
 
   -- each entry x has its own step x + 1, x = its number
   pub record Sound (state : State) : Type 0 where
-    pub good : Steps c k a ns ready (state .cells)
+    pub good : Steps c k a ns ready run (state .cells)
     pub long : length (state .table) ≡ 638
     pub own : (x : ℕ) → x < N → Show (state .cells) (x + 1) x (numberAt ns x)
     pub inside : (x : ℕ) → x < N → labelIn (state .table) x < N
@@ -71,7 +73,7 @@ module _ (c : Context) (k : Clause) (a : List ℕ) (ns : List ℕ) (ready : Read
     pub settled : (x : ℕ) → x < N → labelIn (state .table) (labelIn (state .table) x) ≡ labelIn (state .table) x
 
   -- the same classes after more steps
-  pub sound-grown : (state : State) → Sound state → (cells : List ℕ) (j : ℕ) → Grown c k a ns ready (state .cells) cells j
+  pub sound-grown : (state : State) → Sound state → (cells : List ℕ) (j : ℕ) → Grown c k a ns ready run (state .cells) cells j
       → Sound (record { cells = cells; table = state .table })
   sound-grown state w cells j g =
       record {
@@ -98,54 +100,54 @@ module _ (c : Context) (k : Clause) (a : List ℕ) (ns : List ℕ) (ready : Read
     why′ x = whyIn (state .table) x
 
     pub same-made : (x y : ℕ) → x < 319 → x < N → y < N → numberAt ns x ≡ x → label x ≡ label y → countIn cells + 2 ≤ 16384
-        → Made c k a ns ready cells (same cells table x y) 2 x y
+        → Made c k a ns ready run cells (same cells table x y) 2 x y
     unfolding same ownStep
     same-made x y small hx hy own e room = go (eqb x y) refl
       where
         back : Written
         back = turned cells (why′ y) y (label y)
 
-        b : Made c k a ns ready cells back 1 (label y) y
-        b = turned-made c k a ns ready cells (w .good) (omega arith) (why′ y) y (label y) hy (w .inside y hy) (w .why y hy)
+        b : Made c k a ns ready run cells back 1 (label y) y
+        b = turned-made c k a ns ready run cells (w .good) (omega arith) (why′ y) y (label y) hy (w .inside y hy) (w .why y hy)
 
-        m : Made c k a ns ready (back .cells) (linked (back .cells) (why′ x) (back .number) x (label x) y) 1 x y
+        m : Made c k a ns ready run (back .cells) (linked (back .cells) (why′ x) (back .number) x (label x) y) 1 x y
         m =
-            linked-made c k a ns ready (back .cells) (b .grown .good) (omega (arith, b .grown .more)) (why′ x) (back .number) x (label x) y hx hy
+            linked-made c k a ns ready run (back .cells) (b .grown .good) (omega (arith, b .grown .more)) (why′ x) (back .number) x (label x) y hx hy
             (b .grown .keeps _ _ _ (w .why x hx))
             (subst (λ (i : ℕ). Show (back .cells) (back .number) i y) (sym e) (b .shows))
 
-        go : (d : Bool) → eqb x y ≡ d → Made c k a ns ready cells (same cells table x y) 2 x y
+        go : (d : Bool) → eqb x y ≡ d → Made c k a ns ready run cells (same cells table x y) 2 x y
         go true q =
             rw (q, same, lt-ltb x 319 small, ownStep)
             (record {
-              grown = grown-none c k a ns ready cells (w .good) 2;
+              grown = grown-none c k a ns ready run cells (w .good) 2;
               shows = subst (λ (i : ℕ). Show cells (x + 1) x i) (own ∙ eqb-true x y q) (w .own x hx);
             })
-        go false q = rw (q, same) (record { grown = grown-then c k a ns ready (b .grown) (m .grown); shows = m .shows })
+        go false q = rw (q, same) (record { grown = grown-then c k a ns ready run (b .grown) (m .grown); shows = m .shows })
 
     pub bridge-made : (s x y : ℕ) → x < N → y < N → Show cells s x y → countIn cells + 3 ≤ 16384
-        → Made c k a ns ready cells (bridge cells table s x y) 3 (label x) (label y)
+        → Made c k a ns ready run cells (bridge cells table s x y) 3 (label x) (label y)
     unfolding bridge
     bridge-made s x y hx hy e room =
-        record { grown = grown-then c k a ns ready (grown-then c k a ns ready (b .grown) (o .grown)) (m .grown); shows = m .shows }
+        record { grown = grown-then c k a ns ready run (grown-then c k a ns ready run (b .grown) (o .grown)) (m .grown); shows = m .shows }
       where
         back : Written
         back = turned cells (why′ x) x (label x)
 
-        b : Made c k a ns ready cells back 1 (label x) x
-        b = turned-made c k a ns ready cells (w .good) (omega arith) (why′ x) x (label x) hx (w .inside x hx) (w .why x hx)
+        b : Made c k a ns ready run cells back 1 (label x) x
+        b = turned-made c k a ns ready run cells (w .good) (omega arith) (why′ x) x (label x) hx (w .inside x hx) (w .why x hx)
 
         over : Written
         over = linked (back .cells) (back .number) s (label x) x y
 
-        o : Made c k a ns ready (back .cells) over 1 (label x) y
+        o : Made c k a ns ready run (back .cells) over 1 (label x) y
         o =
-            linked-made c k a ns ready (back .cells) (b .grown .good) (omega (arith, b .grown .more)) (back .number) s (label x) x y (w .inside x hx) hy (b .shows)
+            linked-made c k a ns ready run (back .cells) (b .grown .good) (omega (arith, b .grown .more)) (back .number) s (label x) x y (w .inside x hx) hy (b .shows)
             (b .grown .keeps _ _ _ e)
 
-        m : Made c k a ns ready (over .cells) (linked (over .cells) (over .number) (why′ y) (label x) y (label y)) 1 (label x) (label y)
+        m : Made c k a ns ready run (over .cells) (linked (over .cells) (over .number) (why′ y) (label x) y (label y)) 1 (label x) (label y)
         m =
-            linked-made c k a ns ready (over .cells) (o .grown .good) (omega (arith, b .grown .more, o .grown .more)) (over .number) (why′ y) (label x) y (label y)
+            linked-made c k a ns ready run (over .cells) (o .grown .good) (omega (arith, b .grown .more, o .grown .more)) (over .number) (why′ y) (label x) y (label y)
             (w .inside x hx)
             (w .inside y hy)
             (o .shows)
@@ -157,7 +159,7 @@ module _ (c : Context) (k : Clause) (a : List ℕ) (ns : List ℕ) (ready : Read
       (room : countIn (start .cells) + N ≤ 16384) where
     -- after the first n entries
     record Carrying (n : ℕ) (state : State) : Type 0 where
-      grown : Grown c k a ns ready (start .cells) (state .cells) (sizeIn (start .table) p n)
+      grown : Grown c k a ns ready run (start .cells) (state .cells) (sizeIn (start .table) p n)
       long : length (state .table) ≡ 638
       done : (z : ℕ) → z < n → labelIn (state .table) z ≡ move q p (labelIn (start .table) z)
       rest : (z : ℕ) → n ≤ z → z < N → labelIn (state .table) z ≡ labelIn (start .table) z
@@ -179,7 +181,7 @@ module _ (c : Context) (k : Clause) (a : List ℕ) (ns : List ℕ) (ready : Read
         go false e (inr v) =
             rw (e, carry)
             (record {
-              grown = subst (Grown c k a ns ready (start .cells) (state .cells)) counted (g .grown);
+              grown = subst (Grown c k a ns ready run (start .cells) (state .cells)) counted (g .grown);
               long = g .long;
               done = λ z l. at z (ltb z n) refl l;
               rest = λ z l r. g .rest z (omega arith) r;
@@ -195,7 +197,7 @@ module _ (c : Context) (k : Clause) (a : List ℕ) (ns : List ℕ) (ready : Read
         go true e (inl v) =
             rw (e, carry)
             (record {
-              grown = subst (Grown c k a ns ready (start .cells) (u .cells)) counted (grown-then c k a ns ready (g .grown) (m .grown));
+              grown = subst (Grown c k a ns ready run (start .cells) (u .cells)) counted (grown-then c k a ns ready run (g .grown) (m .grown));
               long = length-fresh (state .table) n q (u .number) (g .long) (omega arith);
               done = λ z l. at z (ltb z n) refl l;
               rest = λ z l r. label-other (state .table) n q (u .number) (g .long) (omega arith) z (omega arith) (λ x. omega arith) ∙ g .rest z (omega arith) r;
@@ -205,9 +207,9 @@ module _ (c : Context) (k : Clause) (a : List ℕ) (ns : List ℕ) (ready : Read
             u : Written
             u = linked (state .cells) (whyIn (state .table) n) s n p q
 
-            m : Made c k a ns ready (state .cells) u 1 n q
+            m : Made c k a ns ready run (state .cells) u 1 n q
             m =
-                linked-made c k a ns ready (state .cells) (g .grown .good) (omega (arith, g .grown .more, size-most (start .table) p n)) (whyIn (state .table) n) s n p q h hq
+                linked-made c k a ns ready run (state .cells) (g .grown .good) (omega (arith, g .grown .more, size-most (start .table) p n)) (whyIn (state .table) n) s n p q h hq
                 (subst (λ (i : ℕ). Show (state .cells) (whyIn (state .table) n) n i) (eqb-true (labelIn (state .table) n) p e) (g .why n h))
                 (g .grown .keeps _ _ _ shown)
 
@@ -237,7 +239,7 @@ module _ (c : Context) (k : Clause) (a : List ℕ) (ns : List ℕ) (ready : Read
     unfolding carried upto sizeIn
     carry-all zero h =
         record {
-          grown = grown-none c k a ns ready (start .cells) (w .good) 0;
+          grown = grown-none c k a ns ready run (start .cells) (w .good) 0;
           long = w .long;
           done = λ z l. absurd (omega arith);
           rest = λ z l r. refl;
@@ -249,7 +251,7 @@ module _ (c : Context) (k : Clause) (a : List ℕ) (ns : List ℕ) (ready : Read
   pub record Moved (start : State) (p q j : ℕ) (after : State) : Type 0 where
     pub sound : Sound after
     pub labels : (z : ℕ) → z < N → labelIn (after .table) z ≡ move q p (labelIn (start .table) z)
-    pub grown : Grown c k a ns ready (start .cells) (after .cells) j
+    pub grown : Grown c k a ns ready run (start .cells) (after .cells) j
 
   carried-moved : N ≤ 319 → (start : State) → Sound start → (s p q : ℕ) → q < N → labelIn (start .table) q ≡ q → Show (start .cells) s p q → countIn (start .cells) + N ≤ 16384
       → Moved start p q (sizeIn (start .table) p N) (carried s p q N start)
@@ -293,12 +295,12 @@ module _ (c : Context) (k : Clause) (a : List ℕ) (ns : List ℕ) (ready : Read
       → Moved start (labelIn (start .table) x) (labelIn (start .table) y) (3 + sizeIn (start .table) (labelIn (start .table) x) N) (moved N s x y start)
   unfolding moved
   moved-sound few start w s x y hx hy shown room =
-      record { sound = m .sound; labels = m .labels; grown = grown-then c k a ns ready (b .grown) (m .grown) }
+      record { sound = m .sound; labels = m .labels; grown = grown-then c k a ns ready run (b .grown) (m .grown) }
     where
       u : Written
       u = bridge (start .cells) (start .table) s x y
 
-      b : Made c k a ns ready (start .cells) u 3 (labelIn (start .table) x) (labelIn (start .table) y)
+      b : Made c k a ns ready run (start .cells) u 3 (labelIn (start .table) x) (labelIn (start .table) y)
       b = bridge-made start w s x y hx hy shown (omega arith)
 
       middle : State
@@ -340,7 +342,7 @@ module _ (c : Context) (k : Clause) (a : List ℕ) (ns : List ℕ) (ready : Read
             moved = record {
               sound = m .sound;
               labels = m .labels;
-              grown = grown-most c k a ns ready (4 + size (labelIn (start .table) x)) (omega arith) (m .grown);
+              grown = grown-most c k a ns ready run (4 + size (labelIn (start .table) x)) (omega arith) (m .grown);
             };
           })
       go false e =
@@ -353,18 +355,38 @@ module _ (c : Context) (k : Clause) (a : List ℕ) (ns : List ℕ) (ready : Read
             moved = record {
               sound = m .sound;
               labels = m .labels;
-              grown = grown-most c k a ns ready (4 + size (labelIn (start .table) y)) (omega arith) (grown-then c k a ns ready (b .grown) (m .grown));
+              grown = grown-most c k a ns ready run (4 + size (labelIn (start .table) y)) (omega arith) (grown-then c k a ns ready run (b .grown) (m .grown));
             };
           })
         where
           u : Written
           u = turned (start .cells) s x y
 
-          b : Made c k a ns ready (start .cells) u 1 y x
-          b = turned-made c k a ns ready (start .cells) (w .good) (omega arith) s x y hx hy shown
+          b : Made c k a ns ready run (start .cells) u 1 y x
+          b = turned-made c k a ns ready run (start .cells) (w .good) (omega arith) s x y hx hy shown
 
           middle : State
           middle = record { cells = u .cells; table = start .table }
 
           m : Moved middle (labelIn (start .table) y) (labelIn (start .table) x) (3 + size (labelIn (start .table) y)) (moved N (u .number) y x middle)
           m = moved-sound few middle (sound-grown start w (u .cells) 1 (b .grown)) (u .number) y x hy hx (b .shows) (omega (arith, b .grown .more))
+
+-- ---- shared steps for an owner
+
+module _ (c : Context) (k : Clause) (a : List ℕ) (ns : List ℕ) (ready : Ready c k a ns) (run : Run c k a) where
+  -- classes of shared steps are those of a run after them, whatever stands behind them in the column
+  pub sound-owned : (state : State) → Sound c k a ns ready (shared-run c k a) state → (other : List ℕ)
+      → countIn (state .cells) ≡ run .from
+      → countIn other ≡ run .from
+      → Under (run .from) (state .cells) other
+      → Sound c k a ns ready run (record { cells = other; table = state .table })
+  sound-owned state w other all-shared no-others under =
+      record {
+        good = steps-owned c k a ns ready run (state .cells) other all-shared no-others under (w .good .follow) (w .good .long);
+        long = w .long;
+        own = λ x h. shows-owned c k a ns ready run (state .cells) other all-shared no-others under _ _ _ (w .own x h);
+        inside = w .inside;
+        why = λ x h. shows-owned c k a ns ready run (state .cells) other all-shared no-others under _ _ _ (w .why x h);
+        like = w .like;
+        settled = w .settled;
+      }

@@ -8,9 +8,4 @@ pub mod Passes
 pub mod Starts
 pub mod Complete
 pub mod Concludes
-pub mod Sweeps
-pub mod Marks
-pub mod Accepts
-pub mod Ranks
-pub mod Emits
-pub mod Breaches
+pub mod Literal

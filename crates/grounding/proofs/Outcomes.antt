@@ -2,7 +2,9 @@
 --     Going                          what holds between the passes
 --     Outcome                        from one state to another
 --     join-outcome                   a join writes a step, and two entries have one label
+--     added-joined                   the sides of an unequal literal that owns the steps have one label
 --     stated-joined                  the sides of each stated equation have one label
+--     going-owned                    what holds of shared steps holds for a run after them
 -- Assumes nothing.
 use mathlib.Core.Bool.{Bool, true, false}
 use mathlib.Core.List.{List}
@@ -16,20 +18,20 @@ use lib.ListN.{length}
 use Rattle.meaning.specs.Context.{Row, rowAt, termAt, leftAt, rightAt, Context, equations}
 use Rattle.meaning.specs.Rules.{Clause}
 use Rattle.meaning.specs.Values.{numberAt}
-use Rattle.meaning.specs.Grounds.{PairAt}
+use Rattle.meaning.specs.Grounds.{PairAt, UnequalAt}
 use Rattle.meaning.specs.Checking.{numbered}
 use Rattle.meaning.proofs.Entries.{entry-row}
 use Rattle.meaning.proofs.Cited.{Ready, length-numbered, numbered-left, numbered-right}
 use Rattle.meaning.proofs.Progress.{move, move-cases}
 use Rattle.grounding.specs.Draft.{countIn, Written, pushed}
 use Rattle.grounding.specs.Classes.{labelIn, State, upto, joined}
-use Rattle.grounding.specs.Rounds.{statedPair, stateOne, stated}
-use Rattle.grounding.proofs.Drafts.{count-pushed}
-use Rattle.grounding.proofs.Builds.{all, table, term, Made, grown-most, number-term, number-inside, ordered, stated-made}
-use Rattle.grounding.proofs.Joins.{Sound, sound-grown, Joined, joined-sound}
-use Rattle.grounding.proofs.Payments.{Paid, paid-most, paid-join, size-in}
+use Rattle.grounding.specs.Rounds.{pairJoined, statedPair, addedPair, stateOne, stated}
+use Rattle.grounding.proofs.Drafts.{Under, under-self, under-then, count-pushed}
+use Rattle.grounding.proofs.Builds.{Run, shared-run, all, table, term, Made, grown-most, number-term, number-inside, ordered, stated-made, added-made}
+use Rattle.grounding.proofs.Joins.{Sound, sound-grown, Joined, joined-sound, sound-owned}
+use Rattle.grounding.proofs.Payments.{Paid, paid-most, paid-fewer, paid-join, size-in}
 
-module _ (c : Context) (k : Clause) (a : List ℕ) (ns : List ℕ) (ready : Ready c k a ns) (few : length (c .rows) + length (k .patterns) ≤ 319) where
+module _ (c : Context) (k : Clause) (a : List ℕ) (ns : List ℕ) (ready : Ready c k a ns) (few : length (c .rows) + length (k .patterns) ≤ 319) (run : Run c k a) where
   abbrev N : ℕ
   N = all c k a ns ready
 
@@ -37,7 +39,7 @@ module _ (c : Context) (k : Clause) (a : List ℕ) (ns : List ℕ) (ready : Read
   entry x = rowAt (table c k a ns ready) x
 
   pub record Going (state : State) : Type 0 where
-    pub sound : Sound c k a ns ready state
+    pub sound : Sound c k a ns ready run state
     pub paid : Paid N (labelIn (state .table)) (countIn (state .cells))
 
   -- nothing changed, and a goal is met; or a step was written. Entries with one label keep one
@@ -45,10 +47,12 @@ module _ (c : Context) (k : Clause) (a : List ℕ) (ns : List ℕ) (ready : Read
     pub going : Going after
     pub coarser : (x y : ℕ) → x < N → y < N → labelIn (before .table) x ≡ labelIn (before .table) y → labelIn (after .table) x ≡ labelIn (after .table) y
     pub least : countIn (before .cells) ≤ countIn (after .cells)
+    pub under : Under (countIn (before .cells)) (before .cells) (after .cells)
     pub did : ((after ≡ before) × Ok before) ⊎ (countIn (before .cells) < countIn (after .cells))
 
   pub unchanged : {Ok : State → Type 0} (state : State) → Going state → Ok state → Outcome Ok state state
-  unchanged state g o = record { going = g; coarser = λ x y hx hy e. e; least = omega arith; did = inl (refl, o) }
+  unchanged state g o =
+      record { going = g; coarser = λ x y hx hy e. e; least = omega arith; under = under-self (countIn (state .cells)) (state .cells); did = inl (refl, o) }
 
   then : {P Q : State → Type 0} {s t u : State} → Outcome P s t → Outcome Q t u → Outcome (λ x. P x × Q x) s u
   then {P} {Q} {s} {t} {u} p q =
@@ -56,6 +60,7 @@ module _ (c : Context) (k : Clause) (a : List ℕ) (ns : List ℕ) (ready : Read
         going = q .going;
         coarser = λ x y hx hy e. q .coarser x y hx hy (p .coarser x y hx hy e);
         least = omega (arith, p .least, q .least);
+        under = under-then (p .least) (p .under) (q .under);
         did = go (p .did) (q .did);
       }
     where
@@ -67,7 +72,7 @@ module _ (c : Context) (k : Clause) (a : List ℕ) (ns : List ℕ) (ready : Read
 
   weaken : {P Q : State → Type 0} {s t : State} → ((x : State) → P x → Q x) → Outcome P s t → Outcome Q s t
   weaken {s = s} f p =
-      record { going = p .going; coarser = p .coarser; least = p .least; did = ⊎-elim (λ x. inl (x .0, f s (x .1))) (λ x. inr x) (p .did) }
+      record { going = p .going; coarser = p .coarser; least = p .least; under = p .under; did = ⊎-elim (λ x. inl (x .0, f s (x .1))) (λ x. inr x) (p .did) }
 
   pub upto-outcome : (n : ℕ) (step : ℕ → State → State) (Ok : ℕ → State → Type 0)
       → ((i : ℕ) → i < n → (s : State) → Going s → Outcome (Ok i) s (step i s))
@@ -97,7 +102,7 @@ module _ (c : Context) (k : Clause) (a : List ℕ) (ns : List ℕ) (ready : Read
     pub one : labelIn (after .table) x ≡ labelIn (after .table) y
 
   pub join-outcome : {Ok : State → Type 0} (state : State) → Going state → (x y : ℕ) → x < N → y < N → (labelIn (state .table) x ≡ labelIn (state .table) y → ⊥)
-      → (w : Written) → Made c k a ns ready (state .cells) w 9 x y → countIn (state .cells) < countIn (w .cells)
+      → (w : Written) → Made c k a ns ready run (state .cells) w 9 x y → countIn (state .cells) < countIn (w .cells)
       → United Ok state x y (joined N (w .number) x y (record { cells = w .cells; table = state .table }))
   join-outcome state g x y hx hy d w m l =
       record {
@@ -114,6 +119,7 @@ module _ (c : Context) (k : Clause) (a : List ℕ) (ns : List ℕ) (ready : Read
           };
           coarser = λ u v hu hv e. j .moved .labels u hu ∙ ap (move (j .to) (j .from)) e ∙ sym (j .moved .labels v hv);
           least = omega (arith, j .moved .grown .least);
+          under = under-then (m .grown .least) (m .grown .under) (j .moved .grown .under);
           did = inr (omega (arith, j .moved .grown .least));
         };
       }
@@ -127,9 +133,9 @@ module _ (c : Context) (k : Clause) (a : List ℕ) (ns : List ℕ) (ready : Read
       bound : countIn (state .cells) ≤ 7018
       bound = paid-most N (labelIn (state .table)) (countIn (state .cells)) few (g .paid)
 
-      j : Joined c k a ns ready middle x y after
+      j : Joined c k a ns ready run middle x y after
       j =
-          joined-sound c k a ns ready few middle (sound-grown c k a ns ready state (g .sound) (w .cells) 9 (m .grown)) (w .number) x y hx hy (m .shows)
+          joined-sound c k a ns ready run few middle (sound-grown c k a ns ready run state (g .sound) (w .cells) 9 (m .grown)) (w .number) x y hx hy (m .shows)
           (omega (arith, bound, m .grown .more))
 
       apart : j .from ≡ j .to → ⊥
@@ -157,6 +163,38 @@ module _ (c : Context) (k : Clause) (a : List ℕ) (ns : List ℕ) (ready : Read
       to-root (inl o) = rw (o .1) (g .sound .settled y hy)
       to-root (inr o) = rw (o .1) (g .sound .settled x hx)
 
+  -- two entries that a step of its own says are equal
+  pair-outcome : (kind number : ℕ) (state : State) → Going state → (x y : ℕ) → x < N → y < N
+      → (countIn (state .cells) < 16384 → Made c k a ns ready run (state .cells) (pushed (state .cells) kind x y number 0 0 0) 1 x y)
+      → United (λ s. Unit {0}) state x y (pairJoined N kind x y number state)
+  unfolding pairJoined
+  pair-outcome kind number state g x y hx hy made = go (eqb (labelIn (state .table) x) (labelIn (state .table) y)) refl
+    where
+      room : countIn (state .cells) < 16384
+      room = omega (arith, paid-most N (labelIn (state .table)) (countIn (state .cells)) few (g .paid))
+
+      w : Written
+      w = pushed (state .cells) kind x y number 0 0 0
+
+      m : Made c k a ns ready run (state .cells) w 1 x y
+      m = made room
+
+      go : (b : Bool) → eqb (labelIn (state .table) x) (labelIn (state .table) y) ≡ b → United (λ s. Unit {0}) state x y (pairJoined N kind x y number state)
+      go true e = rw (e, pairJoined) (record { outcome = unchanged state g tt; one = eqb-true _ _ e })
+      go false e =
+          rw (e, pairJoined)
+          (join-outcome state g x y hx hy (eqb-false _ _ e) w
+          (record { grown = grown-most c k a ns ready run 9 (omega arith) (m .grown); shows = m .shows })
+          (omega (arith, count-pushed (length (c .rows)) (run .from) (run .owner) (state .cells) kind x y number 0 0 0 (g .sound .good .long) room)))
+
+  -- ---- the added equation
+
+  pub added-joined : (state : State) → Going state → (x y : ℕ) → x < N → y < N → UnequalAt c k a (run .owner) (term c k a ns ready x) (term c k a ns ready y)
+      → United (λ s. Unit {0}) state x y (addedPair N x y state)
+  unfolding addedPair
+  added-joined state g x y hx hy e =
+      pair-outcome 6 0 state g x y hx hy (λ room. added-made c k a ns ready run (state .cells) (g .sound .good) room x y hx hy e)
+
   -- ---- stated equations
 
   abbrev eqs : List (ℕ × ℕ)
@@ -168,7 +206,8 @@ module _ (c : Context) (k : Clause) (a : List ℕ) (ns : List ℕ) (ready : Read
 
   stateOne-outcome : (i : ℕ) → i < length eqs → (state : State) → Going state → United (λ s. Unit {0}) state (leftAt eqs i) (rightAt eqs i) (stateOne N eqs i state)
   unfolding stateOne statedPair
-  stateOne-outcome i h state g = go (eqb (labelIn (state .table) l) (labelIn (state .table) r)) refl
+  stateOne-outcome i h state g =
+      pair-outcome 1 (i + 1) state g l r hl hr (λ room. stated-made c k a ns ready run (state .cells) (g .sound .good) room l r hl hr (i + 1) pair)
     where
       l : ℕ
       l = leftAt eqs i
@@ -204,23 +243,6 @@ module _ (c : Context) (k : Clause) (a : List ℕ) (ns : List ℕ) (ready : Read
             right = ap (term c k a ns ready) re ∙ row-term (rightAt (equations c) i) (lower .1);
           }
 
-      room : countIn (state .cells) < 16384
-      room = omega (arith, paid-most N (labelIn (state .table)) (countIn (state .cells)) few (g .paid))
-
-      w : Written
-      w = pushed (state .cells) 1 l r (i + 1) 0 0 0
-
-      m : Made c k a ns ready (state .cells) w 1 l r
-      m = stated-made c k a ns ready (state .cells) (g .sound .good) room l r hl hr (i + 1) pair
-
-      go : (b : Bool) → eqb (labelIn (state .table) l) (labelIn (state .table) r) ≡ b → United (λ s. Unit {0}) state l r (stateOne N eqs i state)
-      go true e = rw (e, statedPair) (record { outcome = unchanged state g tt; one = eqb-true _ _ e })
-      go false e =
-          rw (e, statedPair)
-          (join-outcome state g l r hl hr (eqb-false _ _ e) w
-          (record { grown = grown-most c k a ns ready 9 (omega arith) (m .grown); shows = m .shows })
-          (omega (arith, count-pushed (length (c .rows)) (state .cells) 1 l r (i + 1) 0 0 0 (g .sound .good .long) room)))
-
   -- the first n equations are joined
   pub record Stated (n : ℕ) (state : State) : Type 0 where
     pub going : Going state
@@ -255,3 +277,17 @@ module _ (c : Context) (k : Clause) (a : List ℕ) (ns : List ℕ) (ready : Read
   pub stated-joined : (state : State) → Going state → Stated (length eqs) (stated N eqs state)
   unfolding stated
   stated-joined state g = stated-to (length eqs) (omega arith) state g
+
+-- ---- shared steps for an owner
+
+module _ (c : Context) (k : Clause) (a : List ℕ) (ns : List ℕ) (ready : Ready c k a ns) (few : length (c .rows) + length (k .patterns) ≤ 319) (run : Run c k a) where
+  pub going-owned : (state : State) → Going c k a ns ready few (shared-run c k a) state → (other : List ℕ)
+      → countIn (state .cells) ≡ run .from
+      → countIn other ≡ run .from
+      → Under (run .from) (state .cells) other
+      → Going c k a ns ready few run (record { cells = other; table = state .table })
+  going-owned state g other all-shared no-others under =
+      record {
+        sound = sound-owned c k a ns ready run state (g .sound) other all-shared no-others under;
+        paid = paid-fewer (countIn other) (omega (arith, all-shared, no-others)) (g .paid);
+      }

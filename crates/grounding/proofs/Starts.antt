@@ -17,7 +17,7 @@ use Rattle.grounding.specs.Draft.{countIn, Written, pushed}
 use Rattle.grounding.specs.Classes.{labelIn, whyIn, State, upto}
 use Rattle.grounding.specs.Rounds.{startOne, blank, started}
 use Rattle.grounding.proofs.Drafts.{length-draft, count-pushed, number-pushed}
-use Rattle.grounding.proofs.Builds.{all, Steps, Shows, Made, number-term, number-inside, reflexive-made}
+use Rattle.grounding.proofs.Builds.{shared-run, all, Steps, Shows, Made, number-term, number-inside, reflexive-made}
 use Rattle.grounding.proofs.Joins.{length-fresh, label-fresh, why-fresh, label-other, why-other}
 use Rattle.grounding.proofs.Payments.{paid-start}
 use Rattle.grounding.proofs.Outcomes.{Going}
@@ -40,17 +40,17 @@ module _ (c : Context) (k : Clause) (a : List ℕ) (ns : List ℕ) (ready : Read
 
   -- after the first n entries
   record Starting (n : ℕ) (state : State) : Type 0 where
-    good : Steps c k a ns ready (state .cells)
+    good : Steps c k a ns ready (shared-run c k a) (state .cells)
     count : countIn (state .cells) ≡ n
     long : length (state .table) ≡ 638
-    own : (x : ℕ) → x < n → Shows c k a ns ready (state .cells) (x + 1) x (numberAt ns x)
+    own : (x : ℕ) → x < n → Shows c k a ns ready (shared-run c k a) (state .cells) (x + 1) x (numberAt ns x)
     label : (x : ℕ) → x < n → labelIn (state .table) x ≡ numberAt ns x
     why : (x : ℕ) → x < n → whyIn (state .table) x ≡ x + 1
 
   starting : Starting 0 blank
   starting =
       record {
-        good = record { follow = λ i h. absurd (omega (arith, length-draft (length (c .rows)) (blank .cells), blank-count)); long = blank-cells };
+        good = record { follow = λ i h. absurd (omega (arith, length-draft (length (c .rows)) 0 0 (blank .cells), blank-count)); long = blank-cells; past = omega arith };
         count = blank-count;
         long = blank-table;
         own = λ x h. absurd (omega arith);
@@ -63,7 +63,7 @@ module _ (c : Context) (k : Clause) (a : List ℕ) (ns : List ℕ) (ready : Read
   start-next n h state s =
       record {
         good = m .grown .good;
-        count = count-pushed (length (c .rows)) (state .cells) 2 n (numberAt ns n) 0 0 0 0 (s .good .long) room ∙ ap suc (s .count);
+        count = count-pushed (length (c .rows)) 0 0 (state .cells) 2 n (numberAt ns n) 0 0 0 0 (s .good .long) room ∙ ap suc (s .count);
         long = length-fresh (state .table) n (numberAt ns n) (w .number) (s .long) (omega arith);
         own = λ x l. own′ x l (eqb x n) refl;
         label = λ x l. label′ x l (eqb x n) refl;
@@ -76,14 +76,14 @@ module _ (c : Context) (k : Clause) (a : List ℕ) (ns : List ℕ) (ready : Read
       w : Written
       w = pushed (state .cells) 2 n (numberAt ns n) 0 0 0 0
 
-      m : Made c k a ns ready (state .cells) w 1 n (numberAt ns n)
+      m : Made c k a ns ready (shared-run c k a) (state .cells) w 1 n (numberAt ns n)
       m =
-          reflexive-made c k a ns ready (state .cells) (s .good) room n (numberAt ns n) h (number-inside c k a ns ready n h) (sym (number-term c k a ns ready n h))
+          reflexive-made c k a ns ready (shared-run c k a) (state .cells) (s .good) room n (numberAt ns n) h (number-inside c k a ns ready n h) (sym (number-term c k a ns ready n h))
 
       number : w .number ≡ n + 1
-      number = number-pushed (length (c .rows)) (state .cells) 2 n (numberAt ns n) 0 0 0 0 (s .good .long) room ∙ omega (arith, s .count)
+      number = number-pushed (length (c .rows)) 0 0 (state .cells) 2 n (numberAt ns n) 0 0 0 0 (s .good .long) room ∙ omega (arith, s .count)
 
-      own′ : (x : ℕ) → x < suc n → (b : Bool) → eqb x n ≡ b → Shows c k a ns ready (w .cells) (x + 1) x (numberAt ns x)
+      own′ : (x : ℕ) → x < suc n → (b : Bool) → eqb x n ≡ b → Shows c k a ns ready (shared-run c k a) (w .cells) (x + 1) x (numberAt ns x)
       own′ x l true e = rw (eqb-true x n e, sym number) (m .shows)
       own′ x l false e = m .grown .keeps _ _ _ (s .own x (omega (arith, eqb-false x n e)))
 
@@ -103,7 +103,7 @@ module _ (c : Context) (k : Clause) (a : List ℕ) (ns : List ℕ) (ready : Read
   start-all zero h = starting
   start-all (suc n) h = start-next n (omega arith) (started ns n) (start-all n (omega arith))
 
-  pub started-going : Going c k a ns ready few (started ns N)
+  pub started-going : Going c k a ns ready few (shared-run c k a) (started ns N)
   started-going =
       record {
         sound = record {

@@ -1,5 +1,6 @@
 -- Steps on the way, in one column of numbers, and how one step is made of others.
 --     countIn, stepIn   place 0 is how many there are; step i has the seven places after 7i: kind, left entry, right entry, four numbers
+--     ownerAt           the first steps are shared, and the others one owner's
 --     draft             the steps that a column holds
 --     Written           a column, and the number of one of its steps
 --     Wrote             what a function has left
@@ -18,24 +19,28 @@ use Rattle.meaning.specs.Grounds.{Ref, Step}
 unfoldable pub refOf : ℕ → ℕ → Ref
 refOf rows x = elim (ltb x rows) [ true ↦ record { mark = 0; row = x } | false ↦ record { mark = 1; row = x - rows } ]
 
-unfoldable pub stepOf : ℕ → ℕ → ℕ → ℕ → List ℕ → Step
-stepOf rows kind x y ns = record { owner = 0; kind = kind; left = refOf rows x; right = refOf rows y; numbers = ns }
+unfoldable pub stepOf : ℕ → ℕ → ℕ → ℕ → ℕ → List ℕ → Step
+stepOf rows owner kind x y ns = record { owner = owner; kind = kind; left = refOf rows x; right = refOf rows y; numbers = ns }
 
 abbrev pub countIn : List ℕ → ℕ
 countIn cells = getD cells 0 0
 
-unfoldable pub stepIn : ℕ → List ℕ → ℕ → Step
-stepIn rows cells i =
-    stepOf rows (getD cells (i * 7 + 1) 0) (getD cells (i * 7 + 2) 0) (getD cells (i * 7 + 3) 0)
+-- of step i, where the first `from` steps are shared
+unfoldable pub ownerAt : ℕ → ℕ → ℕ → ℕ
+ownerAt from owner i = elim (ltb i from) [ true ↦ 0 | false ↦ owner ]
+
+unfoldable pub stepIn : ℕ → ℕ → ℕ → List ℕ → ℕ → Step
+stepIn rows from owner cells i =
+    stepOf rows (ownerAt from owner i) (getD cells (i * 7 + 1) 0) (getD cells (i * 7 + 2) 0) (getD cells (i * 7 + 3) 0)
     (getD cells (i * 7 + 4) 0 ∷ getD cells (i * 7 + 5) 0 ∷ getD cells (i * 7 + 6) 0 ∷ getD cells (i * 7 + 7) 0 ∷ [])
 
 -- the first n
-unfoldable pub draftTo : ℕ → List ℕ → ℕ → List Step
-draftTo rows cells zero = []
-draftTo rows cells (suc n) = draftTo rows cells n ++ (stepIn rows cells n ∷ [])
+unfoldable pub draftTo : ℕ → ℕ → ℕ → List ℕ → ℕ → List Step
+draftTo rows from owner cells zero = []
+draftTo rows from owner cells (suc n) = draftTo rows from owner cells n ++ (stepIn rows from owner cells n ∷ [])
 
-unfoldable pub draft : ℕ → List ℕ → List Step
-draft rows cells = draftTo rows cells (countIn cells)
+unfoldable pub draft : ℕ → ℕ → ℕ → List ℕ → List Step
+draft rows from owner cells = draftTo rows from owner cells (countIn cells)
 
 pub record Written : Type 0 where
   pub cells : List ℕ

@@ -3,5 +3,3 @@ pub mod Draft
 pub mod Classes
 pub mod Rounds
 pub mod Concluding
-pub mod Sweeping
-pub mod Grounds

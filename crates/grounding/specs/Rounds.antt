@@ -1,6 +1,8 @@
 -- The way from no steps to closed classes.
 --     started       each entry has a reflexive step and its number for a label
+--     pairJoined    two entries that a step of its own says are equal are joined
 --     statedPair, stated   the sides of each stated equation are joined
+--     addedPair     the sides of an unequal literal are joined by its equation
 --     oneLabel, oneArgument, sameLabels   whether two entries, two arguments, so many arguments have the same labels
 --     argsFrom      so many arguments from a place on
 --     argued, congruence   a step for each two arguments, and the step that rests on them
@@ -32,14 +34,21 @@ blank = record { cells = replicate 114689 0; table = replicate 638 0 }
 unfoldable pub started : List ℕ → ℕ → State
 started ns n = upto n (startOne ns) blank
 
--- of n entries; l = r is equation i, counted from 0
-unfoldable pub statedPair : ℕ → ℕ → ℕ → ℕ → State → State
-statedPair n l r i state =
-    elim (eqb (labelIn (state .table) l) (labelIn (state .table) r)) [
+-- of n entries; nothing where x and y have one label, and else a step of that kind, with one number
+unfoldable pub pairJoined : ℕ → ℕ → ℕ → ℕ → ℕ → State → State
+pairJoined n kind x y number state =
+    elim (eqb (labelIn (state .table) x) (labelIn (state .table) y)) [
       | true ↦ state
-      | false ↦ let w : Written = pushed (state .cells) 1 l r (i + 1) 0 0 0 in
-          joined n (w .number) l r (record { cells = w .cells; table = state .table })
+      | false ↦ let w : Written = pushed (state .cells) kind x y number 0 0 0 in
+          joined n (w .number) x y (record { cells = w .cells; table = state .table })
     ]
+
+-- l = r is equation i, counted from 0
+unfoldable pub statedPair : ℕ → ℕ → ℕ → ℕ → State → State
+statedPair n l r i state = pairJoined n 1 l r (i + 1) state
+
+unfoldable pub addedPair : ℕ → ℕ → ℕ → State → State
+addedPair n x y state = pairJoined n 6 x y 0 state
 
 unfoldable pub stateOne : ℕ → List (ℕ × ℕ) → ℕ → State → State
 stateOne n eqs i state = statedPair n (leftAt eqs i) (rightAt eqs i) i state

@@ -56,9 +56,9 @@ fn list<'a>(
 fn main() {
     let mut input = [0u8; 16385];
     let n = io::read_full(0, &mut input);
-    let mut firsts = [0u64; 16384];
-    let mut seconds = [0u64; 16384];
-    let mut thirds = [0u64; 16384];
+    let mut firsts = [0u64; 278528];
+    let mut seconds = [0u64; 278528];
+    let mut thirds = [0u64; 278528];
     let opened = framing::opening::open(&input[..n], &mut firsts, &mut seconds, &mut thirds);
     let line = opened.line;
     let bytes = line.bytes;

@@ -7,14 +7,14 @@ use mathlib.Core.Path.{_≡_, refl, sym, ap, subst}
 use Prim.Native.Nat.{ℕ, suc, _≤_, _<_}
 use native.Mathlib.Omega.{arith}
 use lib.ListN.{length, replicate}
-use Rattle.meaning.specs.Context.{Context, differences}
+use Rattle.meaning.specs.Context.{Context}
 use Rattle.meaning.specs.Equality.{repAt}
 use Rattle.meaning.specs.Rules.{Clause, Found}
-use Rattle.meaning.specs.ByTable.{apartBy}
 use Rattle.meaning.specs.Replies.{breach, replyOf, placesOf, printed}
 use Rattle.meaning.specs.Listing.{Goes}
 use Rattle.meaning.proofs.Listing.{goes-one}
 use Rattle.meaning.proofs.ListingNext.{everyBy, everyAfter, every-goes, after-goes}
+use Rattle.meaning.proofs.FollowingNumbers.{widerBy}
 use Rattle.ledger.specs.declared.ContextColumns.{ContextColumns}
 use Rattle.ledger.specs.declared.ClauseColumns.{ClauseColumns}
 use Rattle.finder.specs.Claims.{said, asked}
@@ -27,8 +27,8 @@ use Rattle.listing.proofs.Filling.{runs-one}
 use Rattle.listing.proofs.Pieces.{onward, placed-front, Shorter, none-left, fewer, Advance, run-on, line-short}
 
 unfoldable pub restBy : Context → List ℕ → Clause → Stage → List ℕ → List (List ℕ)
-restBy c table k Start places = everyBy (apartBy (repAt table) (differences c)) (c .rows) (repAt table) 65536 k
-restBy c table k After places = everyAfter (apartBy (repAt table) (differences c)) (c .rows) (repAt table) 65536 k places
+restBy c table k Start places = everyBy (widerBy c) (c .rows) (repAt table) 65536 k
+restBy c table k After places = everyAfter (widerBy c) (c .rows) (repAt table) 65536 k places
 restBy c table k Done places = []
 
 -- a breach each, and the last line
@@ -54,9 +54,9 @@ module _ (c : ContextColumns) (t : List ℕ) (k : ClauseColumns) where
   rest-goes : (x : Stage) (places : List ℕ) → (x ≡ Done → ⊥) → Goes (onward c t k) (comesBy (said c) t (asked k) x places) (restBy (said c) t (asked k) x places)
   unfolding comesBy restBy
   rest-goes Start places h =
-      every-goes (apartBy (repAt t) (differences (said c))) (said c .rows) (repAt t) 65536 (asked k) (λ a. placesOf (breach a)) placed-front
+      every-goes (widerBy (said c)) (said c .rows) (repAt t) 65536 (asked k) (λ a. placesOf (breach a)) placed-front
   rest-goes After places h =
-      after-goes (apartBy (repAt t) (differences (said c))) (said c .rows) (repAt t) 65536 (asked k) (λ a. placesOf (breach a)) placed-front places
+      after-goes (widerBy (said c)) (said c .rows) (repAt t) 65536 (asked k) (λ a. placesOf (breach a)) placed-front places
   rest-goes Done places h = absurd (h refl)
 
   comes-goes : (s : State) (r : Found) → Comes c t k s r → Goes (onward c t k) r (restBy (said c) t (asked k) (s .stage) (s .places))

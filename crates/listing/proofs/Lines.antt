@@ -1,4 +1,5 @@
 -- The line that comes at a state: the ways out of the functions that ask for it, tell it and store it.
+--     lent-again                                what is lent, with what is known afterwards
 --     first-answers, next-answers               what the searches answer
 --     told-breach, told-clear, told-unfit       the line of a breach, the last line, and no line
 --     line-start, line-after, line-done         what comes at each stage
@@ -12,10 +13,8 @@ use native.Mathlib.Omega.{arith}
 use borrow.Author.Needs.{needs}
 use lib.ListN.{length, getD, set, take, replicate}
 use lib.Seq.{sets, length-sets, take-suc, length-take-le, take-append-seam}
-use Rattle.meaning.specs.Context.{differences}
 use Rattle.meaning.specs.Equality.{repAt}
 use Rattle.meaning.specs.Rules.{variables, Found, found, nothing, First, Before, Below, rangeOf}
-use Rattle.meaning.specs.ByTable.{apartBy}
 use Rattle.meaning.specs.Columns.{contextFrom}
 use Rattle.meaning.specs.Replies.{breach, none, printed, placesOf}
 use Rattle.meaning.proofs.Table.{length-terms}
@@ -23,8 +22,10 @@ use Rattle.meaning.proofs.Lists.{below-wider}
 use Rattle.meaning.proofs.Pruned.{Sought}
 use Rattle.meaning.proofs.Finds.{starts-below}
 use Rattle.meaning.proofs.ListingNext.{first-sought, next-first}
+use Rattle.meaning.proofs.FollowingNumbers.{widerBy}
 use Rattle.ledger.specs.declared.ContextColumns.{ContextColumns}
 use Rattle.ledger.specs.declared.ClauseColumns.{ClauseColumns}
+use Rattle.differing.specs.Knowing.{Knows}
 use Rattle.search.specs.Hunting.{answerOf}
 use Rattle.search.specs.Finding as F
 use Rattle.search.specs.Finding.{foundBy, laterBy, FindsIn, NextIn}
@@ -39,10 +40,13 @@ use Rattle.normaliser.proofs.Texts.{length-from}
 use Rattle.listing.specs.declared.Stage.the-variants.{Start, After, Done}
 use Rattle.listing.specs.declared.State.{State}
 use Rattle.listing.specs.declared.Entry.{Entry}
-use Rattle.listing.specs.Filling.{Fitted, stateAfter, comesBy, done, unfit}
+use Rattle.listing.specs.Filling.{Fitted, Lent, stateAfter, comesBy, done, unfit}
 use Rattle.listing.specs.Entries.{Answered, fits, unfits, Tells, EntryAt, line, stop, Lined}
 
 -- ---- the searches
+
+pub lent-again : (c : ContextColumns) (t busy known new : List ℕ) → Lent c t busy known → Knows (said c) new → Lent c t busy new
+lent-again c t busy known new w k = record { lends = w .lends; knows = k }
 
 module _ (c : ContextColumns) (t : List ℕ) (k : ClauseColumns) where
   pub first-answers : (r : Reply)
@@ -82,13 +86,13 @@ low-bytes (x ∷ a) b = ap₂ _∷_ (omega (arith, b .0)) (low-bytes a (b .1))
 -- what is found is what is sought
 module _ (c : ContextColumns) (t : List ℕ) (k : ClauseColumns) where
   abbrev So : List ℕ → Type 0
-  So = Sought (apartBy (repAt t) (differences (said c))) (said c .rows) (repAt t) 65536 (asked k)
+  So = Sought (widerBy (said c)) (said c .rows) (repAt t) 65536 (asked k)
 
   pub found-sought : (a : List ℕ) → foundBy (said c) t (asked k) ≡ found a → So a
-  found-sought a e = subst (First So) e (first-sought (apartBy (repAt t) (differences (said c))) (said c .rows) (repAt t) 65536 (asked k)) .0
+  found-sought a e = subst (First So) e (first-sought (widerBy (said c)) (said c .rows) (repAt t) 65536 (asked k)) .0
 
   pub next-sought : (after a : List ℕ) → laterBy (said c) t (asked k) after ≡ found a → So a
-  next-sought after a e = subst (First (λ b. So b × Before (take (variables (asked k .patterns)) after) b)) e (next-first (apartBy (repAt t) (differences (said c))) (said c .rows) (repAt t) 65536 (asked k) after) .0 .0
+  next-sought after a e = subst (First (λ b. So b × Before (take (variables (asked k .patterns)) after) b)) e (next-first (widerBy (said c)) (said c .rows) (repAt t) 65536 (asked k) after) .0 .0
 
 -- rows that were found are bytes
 module _ (c : ContextColumns) (t : List ℕ) (k : ClauseColumns) (f : Fitted c k) where
@@ -96,7 +100,7 @@ module _ (c : ContextColumns) (t : List ℕ) (k : ClauseColumns) (f : Fitted c k
   unfolding contextFrom
   rows-few = omega (arith, length-terms (said c .rows), length-from (c .symbols) (c .counts) (c .args) (c .rows), f .context .rows-few)
 
-  sought-low : (a : List ℕ) → Sought (apartBy (repAt t) (differences (said c))) (said c .rows) (repAt t) 65536 (asked k) a → Below 256 a
+  sought-low : (a : List ℕ) → Sought (widerBy (said c)) (said c .rows) (repAt t) 65536 (asked k) a → Below 256 a
   sought-low a w = below-wider (length (rangeOf (said c))) 256 a rows-few (starts-below (said c) (repAt t) a (w .1))
 
 module _ (c : ContextColumns) (t : List ℕ) (k : ClauseColumns) (s : State) (e : Entry) where
@@ -164,4 +168,4 @@ pub copying-done : {bytes lent after : List ℕ} {len at i : ℕ} → Copying by
 copying-done {bytes} {lent} {after} {len} {at} {i} f h =
     let e : i ≡ len = omega (arith, f .within) in f .stored ∙ ap (λ (j : ℕ). sets lent at (take j bytes)) e
 
-pub ruleset mine = (needs, first-answers, next-answers, told-breach, told-clear, told-unfit, line-start, line-after, line-done, copying-start, copying-step, copying-done)
+pub ruleset mine = (needs, lent-again, first-answers, next-answers, told-breach, told-clear, told-unfit, line-start, line-after, line-done, copying-start, copying-step, copying-done)

@@ -2,17 +2,18 @@
 --     limit-long, limit-short, head-ready, head-refused    the parts
 --     open-done                                            what `open` promises
 --     opens-one                                            two answers to one input are equal
+--     opened-lent                                          what is lent to `fill`, with a memo of zeros
 --     opened-prints, opened-ends                           the line and the pieces are what is to be printed, and with rooms of 13 bytes or more the pieces end
 -- Assumes nothing.
 use mathlib.Core.Bool.{Bool, true, false}
 use mathlib.Core.List.{List, [], _++_, append-nil}
-use mathlib.Core.Path.{_≡_, refl, sym, ap₂, subst, _∙_}
+use mathlib.Core.Path.{_≡_, refl, sym, ap₂, subst, subst₂, _∙_}
 use Prim.Native.Nat.{ℕ, _≤_, _<_}
 use native.Mathlib.Omega.{arith}
 use borrow.Author.Needs.{needs}
 use borrow.Author.Tests.{ltb-true, ltb-false, lt-ltb, le-ltb}
 use lib.Dec.{ltb}
-use lib.ListN.{length, take}
+use lib.ListN.{length, take, replicate}
 use Rattle.meaning.specs.Equality.{Promise}
 use Rattle.meaning.specs.Text.{narrow}
 use Rattle.meaning.specs.Replies.{refused, refusal, printed, inputLimit, Replies}
@@ -23,18 +24,21 @@ use Rattle.ledger.specs.declared.ContextColumns.{ContextColumns}
 use Rattle.ledger.specs.declared.ClauseColumns.{ClauseColumns}
 use Rattle.ledger.specs.declared.Refusal.{Refusal}
 use Rattle.ledger.specs.Phases.{meant}
+use Rattle.further.proofs.Answers.{marks-of-one}
+use Rattle.differing.proofs.Knowing.{knows-start}
 use Rattle.search.specs.Finding.{foundBy}
-use Rattle.finder.specs.Claims.{said, asked, Ruled, Prepares}
+use Rattle.finder.specs.Claims.{said, asked, MarkedIn, Ruled, Prepares}
 use Rattle.finder.specs.declared.Answer.{Answer}
 use Rattle.finder.specs.declared.Answer.the-variants as A
 use Rattle.finder.specs.declared.Prepared.{Prepared}
-use Rattle.finder.proofs.Preparing.{Stands, ready-stands, ready-replies, refused-answers, ruled-one}
+use Rattle.finder.proofs.Preparing.{Stands, ready-stands, ready-replies, ready-consistent, refused-answers, ruled-one}
+use Rattle.finder.proofs.Judging.{lent}
 use Rattle.normaliser.specs.Prints.{Prints}
 use Rattle.normaliser.specs.declared.printed.Line.{Line}
 use Rattle.normaliser.proofs.Printing.{prints-one}
 use Rattle.listing.specs.declared.State.{State}
 use Rattle.listing.specs.declared.opening.Opened.{Opened}
-use Rattle.listing.specs.Filling.{Fitted, startState, Pieces, over}
+use Rattle.listing.specs.Filling.{Fitted, Lent, startState, Pieces, over}
 use Rattle.listing.specs.Opening.{doneState, limitedBy, Headed, starts, ends, Begins, long, refuses, ready, Opens}
 use Rattle.listing.proofs.Pieces.{past-pieces}
 use Rattle.listing.proofs.Filling.{front-of}
@@ -79,11 +83,15 @@ headed-begins input a b l s w e h = go (ltb inputLimit (length input)) refl
     go false t = let k : length input ≤ inputLimit = ltb-false inputLimit (length input) t in short k (limit-short (length input) a k ∙ sym e) s h
 
 pub open-done : (input : List ℕ) (p : Prepared) → Prepares input p → (b : Answer) → b ≡ limitedBy (length input) (p .answer) → (l : Line) (s : State) → Headed b l s
-    → Opens input (record { line = l; state = s; context = p .context; clause = p .clause; table = p .table })
-open-done input p w b e l s h =
-    record { begins = headed-begins input (p .answer) b l s (w .ruled) e h; context = w .context; clause = w .clause; closed = w .closed }
+    → (marks : List ℕ) → MarkedIn (p .context) (p .table) marks → Opens input (record { line = l; state = s; context = p .context; clause = p .clause; table = p .table; busy = marks })
+open-done input p w b e l s h marks m =
+    record { begins = headed-begins input (p .answer) b l s (w .ruled) e h; context = w .context; clause = w .clause; closed = w .closed; marks = m }
 
 -- ---- one answer
+
+marked-one : (c : ContextColumns) (t u v : List ℕ) → MarkedIn c t u → MarkedIn c t v → u ≡ v
+marked-one c t u v p q =
+    marks-of-one (c .symbols) (c .counts) (c .args) (c .rows) (c .kinds) (c .lefts) (c .rights) (c .statements) t u v (p .so) (q .so)
 
 line-one : (line : List ℕ) (l m : Line) → Prints line (l .bytes) (l .len) → Prints line (m .bytes) (m .len) → l ≡ m
 line-one line l m p q =
@@ -108,9 +116,10 @@ begins-one input l m s t (ready h v p) (long g q) = absurd (omega arith)
 begins-one input l m s t (ready h v p) (refuses g x w q) = absurd (never-both input x w v)
 begins-one input l m s t (ready h v p) (ready g w q) = (line-one [] l m p q, refl)
 
-same-parts : {l m : Line} {s t : State} {c d : ContextColumns} {k j : ClauseColumns} {u v : List ℕ} → l ≡ m → s ≡ t → c ≡ d → k ≡ j → u ≡ v
-    → _≡_ {A = Opened} (record { line = l; state = s; context = c; clause = k; table = u }) (record { line = m; state = t; context = d; clause = j; table = v })
-same-parts e f g h i = rw (e, f, g, h, i)
+same-parts : {l m : Line} {s t : State} {c d : ContextColumns} {k j : ClauseColumns} {u v w x : List ℕ} → l ≡ m → s ≡ t → c ≡ d → k ≡ j → u ≡ v → w ≡ x
+    → _≡_ {A = Opened} (record { line = l; state = s; context = c; clause = k; table = u; busy = w })
+    (record { line = m; state = t; context = d; clause = j; table = v; busy = x })
+same-parts e f g h i j = rw (e, f, g, h, i, j)
 
 pub opens-one : (input : List ℕ) (o p : Opened) → Opens input o → Opens input p → o ≡ p
 opens-one input o p v w =
@@ -118,7 +127,14 @@ opens-one input o p v w =
     let c : o .context ≡ p .context = v .context ∙ sym (w .context) in
     let t : o .table ≡ p .table =
     promise-one (said (o .context)) 255 (o .table) (p .table) (v .closed) (subst (λ (d : ContextColumns). Promise (said d) 255 (p .table)) (sym c) (w .closed)) in
-    same-parts (b .0) (b .1) c (v .clause ∙ sym (w .clause)) t
+    let m : o .busy ≡ p .busy =
+    marked-one (o .context) (o .table) (o .busy) (p .busy) (v .marks) (subst₂ (λ (d : ContextColumns) (u : List ℕ). MarkedIn d u (p .busy)) (sym c) (sym t) (w .marks)) in
+    same-parts (b .0) (b .1) c (v .clause ∙ sym (w .clause)) t m
+
+-- ---- what is lent to `fill`
+
+pub opened-lent : (input : List ℕ) (o : Opened) → Opens input o → (known : List ℕ) → known ≡ replicate 65025 0 → Lent (o .context) (o .table) (o .busy) known
+opened-lent input o w known e = record { lends = lent (o .context) (o .table) (o .busy) (w .closed) (w .marks); knows = knows-start (said (o .context)) known e }
 
 -- ---- the whole output
 
@@ -148,7 +164,7 @@ module _ (input : List ℕ) (o : Opened) (opens : Opens input o) where
   ready-prints : Ruled input A.Ready → length input ≤ inputLimit → (room : ℕ → ℕ) (out : List ℕ) → PiecesOf room startState out → BreachesPrints narrow input out
   ready-prints w few room out y =
       let s : Stands input prepared = ready-stands input prepared (ready-prepares w) refl in
-      text-pieces (o .context) (o .table) (o .clause) (fitted w) (opens .closed .rows) input few (s .what) (s .whole) (s .context) (s .clause)
+      text-pieces (o .context) (o .table) (o .clause) (fitted w) (ready-consistent input prepared (ready-prepares w) refl) (opens .closed .rows) input few (s .what) (s .whole) (s .context) (s .clause)
       (foundBy (said (o .context)) (o .table) (asked (o .clause))) (ready-replies input prepared (ready-prepares w) refl) room 0 out y
 
   pub opened-prints : (room : ℕ → ℕ) (out : List ℕ) → PiecesOf room (o .state) out → BreachesPrints narrow input (firstOf ++ out)

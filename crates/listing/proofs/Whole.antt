@@ -1,7 +1,7 @@
 -- The pieces are the program's whole output.
 --     fitted-formed               what well-formed columns say is well-formed
 --     every-pieces, every-ends    over any table: the pieces are the lines of all that is sought, and with rooms of 13 bytes or more they end
---     list-pieces                 over a table of representatives: the lines of the list
+--     list-pieces                 over a table of representatives, where the context does not contradict itself: the lines of the list
 --     text-pieces                 over the columns of a text that the finder answers: what the program has to print
 -- Assumes nothing.
 use mathlib.Core.List.{List, [], _∷_}
@@ -9,17 +9,17 @@ use mathlib.Core.Path.{_≡_, refl, sym, ap, subst, subst₂, _∙_}
 use Prim.Native.Nat.{ℕ, zero, suc, _≤_}
 use native.Mathlib.Omega.{arith}
 use lib.ListN.{length, getD, length-append}
-use Rattle.meaning.specs.Context.{Context, differences}
-use Rattle.meaning.specs.Equality.{repAt, Representatives}
+use Rattle.meaning.specs.Context.{Context}
+use Rattle.meaning.specs.Equality.{repAt, Consistent, Representatives}
 use Rattle.meaning.specs.Rules.{Clause, Found}
 use Rattle.meaning.specs.Formed.{Formed, NamesAll}
 use Rattle.meaning.specs.Columns.{argsAt, contextFrom, patternOf, patternsFrom, literalsFrom, clauseFrom}
-use Rattle.meaning.specs.ByTable.{apartBy}
 use Rattle.meaning.specs.Text.{narrow, Read, taken, read}
 use Rattle.meaning.specs.Replies.{breach, replyOf, placesOf, inputLimit, Replies}
 use Rattle.meaning.specs.Listing.{Lists, Goes, linesOf, listed, lists, printedListing, BreachesPrints, replies}
 use Rattle.meaning.proofs.ListingNext.{everyBy, every-goes, every-lists}
 use Rattle.meaning.proofs.ListingPrints.{lists-one}
+use Rattle.meaning.proofs.FollowingNumbers.{widerBy}
 use Rattle.ledger.specs.declared.ContextColumns.{ContextColumns}
 use Rattle.ledger.specs.declared.ClauseColumns.{ClauseColumns}
 use Rattle.search.specs.Finding.{foundBy}
@@ -32,10 +32,10 @@ use Rattle.listing.proofs.Pieces.{onward, placed-front, start-comes, pi
 
 module _ (c : ContextColumns) (t : List ℕ) (k : ClauseColumns) where
   abbrev pub allSought : List (List ℕ)
-  allSought = everyBy (apartBy (repAt t) (differences (said c))) (said c .rows) (repAt t) 65536 (asked k)
+  allSought = everyBy (widerBy (said c)) (said c .rows) (repAt t) 65536 (asked k)
 
   goes-sought : Goes (onward c t k) (foundBy (said c) t (asked k)) allSought
-  goes-sought = every-goes (apartBy (repAt t) (differences (said c))) (said c .rows) (repAt t) 65536 (asked k) (λ a. placesOf (breach a)) placed-front
+  goes-sought = every-goes (widerBy (said c)) (said c .rows) (repAt t) 65536 (asked k) (λ a. placesOf (breach a)) placed-front
 
   module _ (fitted : Fitted c k) (room : ℕ → ℕ) where
     pub every-pieces : (i : ℕ) (out : List ℕ) → Pieces c t k room i startState out → out ≡ linesOf allSought
@@ -63,11 +63,12 @@ fitted-formed c k f =
           (f .clause .named);
     }
 
-module _ (c : ContextColumns) (t : List ℕ) (k : ClauseColumns) (fitted : Fitted c k) (represents : Representatives (said c) (repAt t)) where
+module _ (c : ContextColumns) (t : List ℕ) (k : ClauseColumns) (fitted : Fitted c k) (free : Consistent (said c))
+    (represents : Representatives (said c) (repAt t)) where
   pub sought-lists : Lists (said c) (asked k) (allSought c t k)
   unfolding contextFrom
   sought-lists =
-      every-lists (said c) (asked k) (fitted-formed c k fitted) (repAt t) represents 65536
+      every-lists (said c) (asked k) (fitted-formed c k fitted) free (repAt t) represents 65536
       (omega (arith, length-from (c .symbols) (c .counts) (c .args) (c .rows), fitted .context .rows-few))
 
   pub list-pieces : (l : List (List ℕ)) → Lists (said c) (asked k) l → (room : ℕ → ℕ) (i : ℕ) (out : List ℕ) → Pieces c t k room i startState out → out ≡ linesOf l

@@ -1,5 +1,6 @@
 -- What `fill` writes and answers, and what its pieces are.
 --     Fitted                     the columns of a context and of a clause are well-formed
+--     Lent                       what `fill` is lent: the closing with the marks of its busy classes, and what is known of pairs
 --     startState, doneBy         where a list begins; whether it is written to its end
 --     stateAfter                 where it stands after what was found
 --     comesBy, Comes, Stopped    what comes at a state; a state at which nothing comes
@@ -18,6 +19,7 @@ use Rattle.meaning.specs.Replies.{breach, replyOf, placesOf, printed}
 use Rattle.columns.specs.Fit.{FitContext, FitClause}
 use Rattle.ledger.specs.declared.ContextColumns.{ContextColumns}
 use Rattle.ledger.specs.declared.ClauseColumns.{ClauseColumns}
+use Rattle.differing.specs.Knowing.{Lends, Knows}
 use Rattle.search.specs.Finding.{foundBy, laterBy}
 use Rattle.finder.specs.Claims.{said, asked}
 use Rattle.listing.specs.declared.Stage.{Stage}
@@ -28,6 +30,11 @@ use Rattle.listing.specs.declared.Filled.{Filled}
 pub record Fitted (c : ContextColumns) (k : ClauseColumns) : Type 0 where
   pub context : FitContext (c .symbols) (c .counts) (c .args) (c .rows) (c .kinds) (c .lefts) (c .rights) (c .statements)
   pub clause : FitClause (k .kinds) (k .heads) (k .counts) (k .args) (k .patterns) (k .signs) (k .lefts) (k .rights) (k .literals)
+
+-- the table is the closing of the context, where the columns are well-formed
+pub record Lent (c : ContextColumns) (table busy known : List ℕ) : Type 0 where
+  pub lends : Lends (c .symbols) (c .counts) (c .args) (c .rows) (c .kinds) (c .lefts) (c .rights) (c .statements) table busy
+  pub knows : Knows (said c) known
 
 -- ---- states
 

@@ -2,7 +2,7 @@
 --     doneState            where there is nothing to list
 --     limitedBy, Headed    refusal 11 before everything else; the line and the state of an answer
 --     Begins               what is printed first, and where the list begins
---     Opens                with the columns that were read, every place of them, and the representatives
+--     Opens                with the columns that were read, every place of them, the representatives, and the marks of the busy classes
 -- Assumes nothing.
 use mathlib.Core.Bool.{true, false}
 use mathlib.Core.List.{List, []}
@@ -17,7 +17,7 @@ use Rattle.meaning.specs.Replies.{refused, refusal, printed, inputLimit}
 use Rattle.ledger.specs.declared.Refusal.{Refusal}
 use Rattle.ledger.specs.Phases.{meant}
 use Rattle.reader.specs.Reads.{contextOf, clauseIn}
-use Rattle.finder.specs.Claims.{said, Ruled}
+use Rattle.finder.specs.Claims.{said, MarkedIn, Ruled}
 use Rattle.finder.specs.declared.Answer.{Answer}
 use Rattle.finder.specs.declared.Answer.the-variants.{Ready, Refused}
 use Rattle.normaliser.specs.Prints.{Prints}
@@ -49,3 +49,4 @@ pub record Opens (input : List ℕ) (o : Opened) : Type 0 where
   pub context : o .context ≡ contextOf (read narrow input)
   pub clause : o .clause ≡ clauseIn (read narrow input)
   pub closed : Promise (said (o .context)) 255 (o .table)
+  pub marks : MarkedIn (o .context) (o .table) (o .busy)

@@ -12,7 +12,7 @@ ghost use lib.Seq.{sets};
 ghost use Rattle.meaning.specs.Rules.{nothing};
 ghost use Rattle.search.specs.Finding.{foundBy, laterBy};
 ghost use Rattle.finder.specs.Claims.{said, asked};
-ghost use Rattle.listing.specs.Filling.{doneBy, startState, stateAfter, Fills};
+ghost use Rattle.listing.specs.Filling.{Lent, doneBy, startState, stateAfter, Fills};
 ghost use Rattle.listing.specs.Entries.{Answered, Tells, EntryAt, Lined};
 
 // At the start of the list, after a breach, or past the end.
@@ -78,14 +78,22 @@ fn wide(x: u8) -> usize
 }
 
 // The first breach.
-fn first(c: ContextColumns, table: [u16; 255], k: ClauseColumns) -> search::Reply
+fn first(
+    c: ContextColumns,
+    table: [u16; 255],
+    k: ClauseColumns,
+    busy: &[u8; 255],
+    known: &mut [u8; 65025],
+) -> search::Reply
+    requires { ⌜ Lent c table (now busy) (now known) ⌝ }
     ensures { λ r. ⌜ Answered c k (foundBy (said c) table (asked k)) r ⌝ }
+    ensures { λ _. ⌜ Lent c table (now (busy .entry)) (now (known .exit)) ⌝ }
 {
     let rows = c.rows;
     let statements = c.statements;
     let patterns = k.patterns;
     let literals = k.literals;
-    search::find_in(
+    search::find_with(
         &c.symbols,
         &c.counts,
         &c.args,
@@ -95,6 +103,9 @@ fn first(c: ContextColumns, table: [u16; 255], k: ClauseColumns) -> search::Repl
         &c.rights,
         statements,
         &table,
+        &table,
+        busy,
+        known,
         &k.kinds,
         &k.heads,
         &k.counts,
@@ -112,15 +123,19 @@ fn following(
     c: ContextColumns,
     table: [u16; 255],
     k: ClauseColumns,
+    busy: &[u8; 255],
+    known: &mut [u8; 65025],
     after: [u16; 4],
 ) -> search::Reply
+    requires { ⌜ Lent c table (now busy) (now known) ⌝ }
     ensures { λ r. ⌜ Answered c k (laterBy (said c) table (asked k) after) r ⌝ }
+    ensures { λ _. ⌜ Lent c table (now (busy .entry)) (now (known .exit)) ⌝ }
 {
     let rows = c.rows;
     let statements = c.statements;
     let patterns = k.patterns;
     let literals = k.literals;
-    search::next_in(
+    search::next_with(
         &c.symbols,
         &c.counts,
         &c.args,
@@ -130,6 +145,9 @@ fn following(
         &c.rights,
         statements,
         &table,
+        &table,
+        busy,
+        known,
         &k.kinds,
         &k.heads,
         &k.counts,
@@ -176,20 +194,29 @@ fn told(kind: Kind, places: [u16; 4]) -> Entry
     }
 }
 
-fn line_at(c: ContextColumns, table: [u16; 255], k: ClauseColumns, s: State) -> Entry
+fn line_at(
+    c: ContextColumns,
+    table: [u16; 255],
+    k: ClauseColumns,
+    busy: &[u8; 255],
+    known: &mut [u8; 65025],
+    s: State,
+) -> Entry
+    requires { ⌜ Lent c table (now busy) (now known) ⌝ }
     ensures { λ e. ⌜ EntryAt c table k s e ⌝ }
+    ensures { λ _. ⌜ Lent c table (now (busy .entry)) (now (known .exit)) ⌝ }
 {
     let stage = s.stage;
     let places = s.places;
     match stage {
         Stage::Start => {
-            let r = first(c, table, k);
+            let r = first(c, table, k, busy, known);
             let kind = r.kind;
             let rows = r.places;
             told(kind, rows)
         }
         Stage::After => {
-            let r = following(c, table, k, places);
+            let r = following(c, table, k, busy, known, places);
             let kind = r.kind;
             let rows = r.places;
             told(kind, rows)
@@ -210,20 +237,24 @@ fn put(bytes: [u8; 32], len: usize, space: &mut [u8], at: usize)
     }
 }
 
-// Writes whole lines from a state on, as many as there is room for.
+// Writes whole lines from a state on, as many as there is room for. What is known of pairs is kept from piece to piece, so that each is asked once.
 pub fn fill(
     c: ContextColumns,
     table: [u16; 255],
     k: ClauseColumns,
+    busy: &[u8; 255],
+    known: &mut [u8; 65025],
     state: State,
     space: &mut [u8],
 ) -> Filled
+    requires lent { ⌜ Lent c table (now busy) (now known) ⌝ }
     ensures fills { λ r. ⌜ Fills c table k state (now (space .entry)) r (now (space .exit)) ⌝ }
+    ensures lent { λ _. ⌜ Lent c table (now (busy .entry)) (now (known .exit)) ⌝ }
 {
     let mut used = 0;
     let mut at = state;
     loop {
-        let e = line_at(c, table, k, at);
+        let e = line_at(c, table, k, busy, known, at);
         let len = e.len;
         if len == 0 {
             let next = done();

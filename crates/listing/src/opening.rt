@@ -29,6 +29,7 @@ pub struct Opened {
     pub context: ContextColumns,
     pub clause: ClauseColumns,
     pub table: [u16; 255],
+    pub busy: [u8; 255],
 }
 
 fn no_line() -> Line
@@ -85,11 +86,13 @@ pub fn open(input: &[u8]) -> Opened
     let context = p.context;
     let clause = p.clause;
     let table = p.table;
+    let busy = finder::busy(context, table);
     Opened {
         line,
         state,
         context,
         clause,
         table,
+        busy,
     }
 }

@@ -2,6 +2,7 @@
 --     verdict-judged, settles-by          by any table of representatives the reply, and the normal text, are the right ones
 --     judge-judged, replyTo-replies       the computed reply is the reply
 --     judged-one, replies-one             and there is no other
+--     judged-consistent                   a context with a breach or none does not contradict itself
 --     normalise-writes, writes-one        the same of the normaliser, lent bytes included
 -- Assumes nothing.
 use mathlib.Core.Bool.{Bool, true, false}
@@ -13,13 +14,13 @@ use lib.Dec.{leb}
 use borrow.Author.Tests.{leb-true, leb-false}
 use lib.ListN.{length}
 use Rattle.meaning.specs.Context.{Context, differences}
-use Rattle.meaning.specs.Equality.{Representatives}
-use Rattle.meaning.specs.Rules.{Clause, Found, Literal}
-use Rattle.meaning.specs.Text.{narrow, read, Reading, faulty, taken, Limits}
+use Rattle.meaning.specs.Equality.{Consistent, Representatives}
+use Rattle.meaning.specs.Rules.{Clause, Found, found, nothing, Literal}
+use Rattle.meaning.specs.Text.{narrow, Refusal, read, Reading, faulty, taken, Limits}
 use Rattle.meaning.specs.Writing.{contextText, normalOf}
 use Rattle.meaning.specs.Replies.{Judged, empty, clashes, answers, Replies, RepliesTo, Reply, refused, refusal, replyOf, Normal, normal, Normalised, Settled, contradicts, abnormal, settles, Normalises, NormalisesTo, Written, Leaves, fits, short, stays, Writes}
 use Rattle.meaning.specs.Formed.{Formed, Fit}
-use Rattle.meaning.specs.ByTable.{first, apartBy, clashOf, Clashing, clear}
+use Rattle.meaning.specs.ByTable.{first, clashOf, Clashing, clear}
 use Rattle.meaning.specs.FirstBy.{firstBy}
 use Rattle.meaning.proofs.Promised.{closing-represents}
 use Rattle.meaning.proofs.Apartness.{clash-first, clash-clear, first-clash-one}
@@ -28,11 +29,12 @@ use Rattle.meaning.proofs.Taken.{read-formed}
 use Rattle.meaning.proofs.Agreement.{normal-one}
 use Rattle.meaning.proofs.Computed.{verdict, judge, repOf, replyTo, replyOn, settled, normalise, leave, normalOn}
 use Rattle.meaning.proofs.Computes.{computed-first}
+use Rattle.meaning.proofs.FollowingNumbers.{widerBy}
 
 -- by any table of representatives, and with the numbers outside from any offset that is no row
 module _ (c : Context) (k : Clause) (formed : Formed c k) (rep : ℕ → ℕ) (represents : Representatives c rep) (offset : ℕ) (high : length (c .rows) ≤ offset) where
   abbrev reply : Found
-  reply = firstBy (apartBy rep (differences c)) (c .rows) rep offset k
+  reply = firstBy (widerBy c) (c .rows) rep offset k
 
   pub verdict-judged : Judged c k (verdict (k .literals) (clashOf rep (differences c)) reply)
   unfolding verdict
@@ -43,8 +45,8 @@ module _ (c : Context) (k : Clause) (formed : Formed c k) (rep : ℕ → ℕ) (r
       go (l ∷ ls) e (first n) t =
           clashes (λ z. absurd (let y : _≡_ {A = ℕ} 0 1 = cc in omega arith)) n (clash-first c (formed .fit) rep represents n t)
       go (l ∷ ls) e clear t =
-          answers (λ z. absurd (let y : _≡_ {A = ℕ} 0 1 = cc in omega arith)) (clash-clear c (formed .fit) rep represents t) reply
-          (computed-first c k formed rep represents offset high)
+          let free : Consistent c = clash-clear c (formed .fit) rep represents t in
+          answers (λ z. absurd (let y : _≡_ {A = ℕ} 0 1 = cc in omega arith)) free reply (computed-first c k formed free rep represents offset high)
 
 pub judge-judged : (c : Context) (k : Clause) → Formed c k → Judged c k (judge c k)
 unfolding judge
@@ -77,6 +79,18 @@ replies-one L text r s = go (read L text)
     go : (x : Reading) → RepliesTo x r → RepliesTo x s → r ≡ s
     go (faulty f) p q = p ∙ sym q
     go (taken x) p q = judged-one (x .ledger .context) (x .clause) r s p q
+
+pub judged-consistent : (c : Context) (k : Clause) (r : Found) → Judged c k (replyOf r) → Consistent c
+judged-consistent c k r w = go w refl
+  where
+    never : (f : Refusal) (x : Found) → refused f ≡ replyOf x → ⊥
+    never f (found a) e = let z : _≡_ {A = ℕ} 0 1 = cc in omega arith
+    never f nothing e = let z : _≡_ {A = ℕ} 0 1 = cc in omega arith
+
+    go : {s : Reply} → Judged c k s → s ≡ replyOf r → Consistent c
+    go (empty e) f = absurd (never _ r f)
+    go (clashes e n x) f = absurd (never _ r f)
+    go (answers e x t y) f = x
 
 -- ---- the normaliser
 

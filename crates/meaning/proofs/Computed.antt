@@ -13,9 +13,10 @@ use Rattle.meaning.specs.Rules.{Literal, Clause, Found}
 use Rattle.meaning.specs.Text.{narrow, Reading, faulty, taken, read}
 use Rattle.meaning.specs.Writing.{contextText, normalOf}
 use Rattle.meaning.specs.Replies.{refusal, Reply, refused, replyOf, Normalised, normal, abnormal, Written, wrote, unwritten}
-use Rattle.meaning.specs.ByTable.{Clashing, first, clear, clashOf, apartBy}
+use Rattle.meaning.specs.ByTable.{Clashing, first, clear, clashOf}
 use Rattle.meaning.specs.FirstBy.{firstBy}
 use Rattle.meaning.proofs.Closing.{close}
+use Rattle.meaning.proofs.FollowingNumbers.{widerBy}
 
 abbrev pub repOf : Context → ℕ → ℕ
 repOf c = repAt (close (c .rows) (equations c))
@@ -28,7 +29,7 @@ verdict (l ∷ ls) clear r = replyOf r
 unfoldable pub judge : Context → Clause → Reply
 judge c k =
     verdict (k .literals) (clashOf (repOf c) (differences c))
-    (firstBy (apartBy (repOf c) (differences c)) (c .rows) (repOf c) (length (c .rows)) k)
+    (firstBy (widerBy c) (c .rows) (repOf c) (length (c .rows)) k)
 
 unfoldable pub replyOn : Reading → Reply
 replyOn (faulty f) = refused f

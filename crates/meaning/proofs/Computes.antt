@@ -1,4 +1,4 @@
--- The plain search over a table of representatives gives the first breach, or none exactly when there is none.
+-- The plain search over a table of representatives gives the first breach, or none exactly when there is none, where the context does not contradict itself.
 --     numbers-right     the test by numbers is right about assignments of representatives
 --     computed-first    what is computed answers
 -- Assumes nothing.
@@ -6,29 +6,30 @@ use mathlib.Core.Path.{_≡_}
 use Prim.Native.Nat.{ℕ, _≤_, _<_}
 use native.Mathlib.Omega.{arith}
 use lib.ListN.{length}
-use Rattle.meaning.specs.Context.{Context, equations, differences}
-use Rattle.meaning.specs.Equality.{Representatives}
+use Rattle.meaning.specs.Context.{Context, equations}
+use Rattle.meaning.specs.Equality.{Consistent, Representatives}
 use Rattle.meaning.specs.Rules.{Clause, choice, rangeOf, variables, Answers}
 use Rattle.meaning.specs.Formed.{Formed}
-use Rattle.meaning.specs.ByTable.{apartBy}
 use Rattle.meaning.specs.FirstBy.{breaks, firstBy}
 use Rattle.meaning.proofs.Model.{Closed}
 use Rattle.meaning.proofs.Promised.{representatives-closed}
 use Rattle.meaning.proofs.Box.{mem-below, mem-all, Mem}
-use Rattle.meaning.proofs.Numbered.{all-hold-numbers, apart-numbers, Means, means-choice}
+use Rattle.meaning.proofs.Numbered.{all-hold-numbers, Means, means-choice}
 use Rattle.meaning.proofs.Seek.{starts, lowest-below, lowest-self}
 use Rattle.meaning.proofs.Finds.{RightTest, first-breach}
+use Rattle.meaning.proofs.FollowingNumbers.{widerBy, wider-instances}
 
-module _ (c : Context) (k : Clause) (formed : Formed c k) (rep : ℕ → ℕ) (represents : Representatives c rep) (offset : ℕ) (fits : length (c .rows) ≤ offset) where
+module _ (c : Context) (k : Clause) (formed : Formed c k) (free : Consistent c) (rep : ℕ → ℕ) (represents : Representatives c rep) (offset : ℕ)
+    (fits : length (c .rows) ≤ offset) where
   closed : Closed (c .rows) (equations c) rep
   closed = representatives-closed c (formed .fit) rep represents
 
-  pub numbers-right : RightTest c k rep (breaks (apartBy rep (differences c)) (c .rows) rep offset k)
+  pub numbers-right : RightTest c k rep (breaks (widerBy c) (c .rows) rep offset k)
   unfolding breaks
   numbers-right a whole inside =
       all-hold-numbers c rep (formed .fit .ordered) (formed .fit .within) closed offset fits (k .patterns) (formed .placed) a (choice (rangeOf c) a) means
-      (apartBy rep (differences c))
-      (apart-numbers c rep (formed .fit .ordered) (formed .fit .within) closed offset fits (k .patterns) (formed .placed) a (choice (rangeOf c) a) means (formed .fit .apart))
+      (widerBy c)
+      (wider-instances c (formed .fit) free rep closed offset fits (k .patterns) (formed .placed) a (choice (rangeOf c) a) means)
       (k .literals)
       (formed .named)
     where
@@ -40,5 +41,5 @@ module _ (c : Context) (k : Clause) (formed : Formed c k) (rep : ℕ → ℕ) (r
       means : (v : ℕ) → v < variables (k .patterns) → Means (c .rows) rep a (choice (rangeOf c) a) v
       means v h = means-choice (c .rows) (equations c) rep (formed .fit .ordered) (formed .fit .within) closed a start v (omega arith)
 
-  pub computed-first : Answers c k (firstBy (apartBy rep (differences c)) (c .rows) rep offset k)
-  computed-first = first-breach c k rep closed (apartBy rep (differences c)) offset numbers-right
+  pub computed-first : Answers c k (firstBy (widerBy c) (c .rows) rep offset k)
+  computed-first = first-breach c k rep closed (widerBy c) offset numbers-right

@@ -17,8 +17,9 @@ use Rattle.meaning.specs.Text.{narrow, Refusal, at, put, read, taken, le
 use Rattle.meaning.specs.Writing.{contextText, normalOf, joins, sorted, rowsText, statementsText}
 use Rattle.meaning.specs.Replies.{Replies, Writes, Reply, replies, refused, replyOf, breach, none, Normalised, Written, Leaves, unwritten, fits, short, stays, normal, wrote}
 use Rattle.meaning.specs.Formed.{Fit}
-use Rattle.meaning.specs.ByTable.{sameList, clashOf, clashFrom, apartBy}
+use Rattle.meaning.specs.ByTable.{sameList, clashOf, clashFrom}
 use Rattle.meaning.specs.Values.{numbers, number, stages, step, numberOf, met, isOver, held, rowsAt, levels, levelsFrom, levelOf, highest}
+use Rattle.meaning.specs.Following.{followsBy}
 use Rattle.meaning.specs.FirstBy.{firstBy, seek, tryAll, orElse, lowest, breaks, allHoldBy, holdsBy}
 use Rattle.meaning.specs.Sheet.{sheet, bytes}
 use Rattle.meaning.specs.Demands.{Alike, Finder, Normaliser, RefusesRightly, FindsFirst, LeavesRightly, Gives, KeepsMeaning, Tells}
@@ -26,6 +27,7 @@ use Rattle.meaning.proofs.Progress.{move, total}
 use Rattle.meaning.proofs.Closing.{agree, close, rounds, round, rowsPass, rowPass, statedPass, upto, unite, uniteIf, count}
 use Rattle.meaning.proofs.Promised.{model-rows, closing-represents}
 use Rattle.meaning.proofs.Taken.{read-formed}
+use Rattle.meaning.proofs.FollowingNumbers.{widerBy}
 use Rattle.meaning.proofs.Computed.{leave, normalise, replyTo, repOf, normalOn, settled, verdict, replyOn, judge}
 use Rattle.meaning.proofs.Demanded.{keeps-meaning}
 use Rattle.meaning.proofs.Answered.{replies-one, writes-one, normalise-writes, replyTo-replies}
@@ -279,7 +281,7 @@ hastyOn (faulty f) = refused f
 hastyOn (taken s) =
     let c : Context = s .ledger .context in
     verdict (s .clause .literals) (clashOf (hastyRep c) (differences c))
-    (firstBy (apartBy (hastyRep c) (differences c)) (c .rows) (hastyRep c) (length (c .rows)) (s .clause))
+    (firstBy (widerBy c) (c .rows) (hastyRep c) (length (c .rows)) (s .clause))
 
 unfoldable pub hasty : Finder
 hasty text = hastyOn (read narrow text)
@@ -289,11 +291,11 @@ unfoldable fiveTimes : List ℕ
 fiveTimes = bytes "01000100\n0101010100\n0101010101\n0101010102\n0101010103\n0101010104\n020300\n020500\n0400\n05000100\n0501010101\n060001\n060201\n"
 
 five-reply : replyTo fiveTimes ≡ breach (0 ∷ [])
-unfolding fiveTimes bytes read readLines linesOf linesFrom digit fields isListed listedAs sizeOf entryOf rankOf putContext putClause put firstFailing isNowhere nonDigit legible known sized ranked room namedBy tableOf noRow refers rowsAgree patternsAgree agrees testsOf firstFault replyTo replyOn judge verdict clashOf clashFrom equationsOf differencesOf firstBy seek tryAll orElse lowest breaks allHoldBy holdsBy numbers stages number step numberOf met isOver held rowsAt levels levelsFrom levelOf highest apartBy sameList variables close rounds round rowsPass rowPass statedPass upto uniteIf agree unite count move total
+unfolding fiveTimes bytes read readLines linesOf linesFrom digit fields isListed listedAs sizeOf entryOf rankOf putContext putClause put firstFailing isNowhere nonDigit legible known sized ranked room namedBy tableOf noRow refers rowsAgree patternsAgree agrees testsOf firstFault replyTo replyOn judge verdict clashOf clashFrom equationsOf differencesOf firstBy seek tryAll orElse lowest breaks allHoldBy holdsBy numbers stages number step numberOf met isOver held rowsAt levels levelsFrom levelOf highest widerBy followsBy sameList variables close rounds round rowsPass rowPass statedPass upto uniteIf agree unite count move total
 five-reply = refl
 
 five-hasty : hasty fiveTimes ≡ none
-unfolding fiveTimes hasty hastyOn hastyRep bytes read readLines linesOf linesFrom digit fields isListed listedAs sizeOf entryOf rankOf putContext putClause put firstFailing isNowhere nonDigit legible known sized ranked room namedBy tableOf noRow refers rowsAgree patternsAgree agrees testsOf firstFault replyTo replyOn judge verdict clashOf clashFrom equationsOf differencesOf firstBy seek tryAll orElse lowest breaks allHoldBy holdsBy numbers stages number step numberOf met isOver held rowsAt levels levelsFrom levelOf highest apartBy sameList variables close rounds round rowsPass rowPass statedPass upto uniteIf agree unite count move total
+unfolding fiveTimes hasty hastyOn hastyRep bytes read readLines linesOf linesFrom digit fields isListed listedAs sizeOf entryOf rankOf putContext putClause put firstFailing isNowhere nonDigit legible known sized ranked room namedBy tableOf noRow refers rowsAgree patternsAgree agrees testsOf firstFault replyTo replyOn judge verdict clashOf clashFrom equationsOf differencesOf firstBy seek tryAll orElse lowest breaks allHoldBy holdsBy numbers stages number step numberOf met isOver held rowsAt levels levelsFrom levelOf highest widerBy followsBy sameList variables close rounds round rowsPass rowPass statedPass upto uniteIf agree unite count move total
 five-hasty = refl
 
 pub no-hasty : FindsFirst hasty → ⊥

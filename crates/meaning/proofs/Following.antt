@@ -16,9 +16,10 @@ use Prim.Native.Nat.{ℕ, zero, suc, _<_}
 use native.Mathlib.Omega.{arith}
 use lib.ListN.{length}
 use Rattle.meaning.specs.Context.{Term, Context, termAt, equationsOf, equations, differencesOf, differences, leftAt, rightAt}
-use Rattle.meaning.specs.Equality.{Stated, Equal, EqualIn, ApartIn, Clash, Consistent, given, reflexive, symmetric, transitive}
+use Rattle.meaning.specs.Equality.{Stated, Equal, EqualIn, ApartIn, Adding, stated, added, EqualAdding, Clash, Consistent, given, reflexive, symmetric, transitive}
+use Rattle.meaning.specs.Rules.{Differ}
 use Rattle.meaning.specs.Formed.{Fit}
-use Rattle.meaning.specs.Following.{Adding, stated, added, EqualAdding, DifferWider, withEquation}
+use Rattle.meaning.specs.Following.{withEquation}
 use Rattle.meaning.proofs.Pairs.{same-mono}
 
 -- ---- one equation more
@@ -43,7 +44,7 @@ adding-equal c t u e = same-mono each
 
 -- ---- what differs
 
-pub apart-wider : (c : Context) (t u : Term) → ApartIn c t u → DifferWider c t u
+pub apart-wider : (c : Context) (t u : Term) → ApartIn c t u → Differ c t u
 apart-wider c t u a = (
   a .0,
   a .1,
@@ -53,30 +54,30 @@ apart-wider c t u a = (
       (a .2),
 )
 
-pub clash-wider : (c : Context) (n : ℕ) → Clash c n → (t u : Term) → DifferWider c t u
+pub clash-wider : (c : Context) (n : ℕ) → Clash c n → (t u : Term) → Differ c t u
 clash-wider c n w t u = (n, w .0, adding-more c t u (w .1))
 
-equal-clash : (c : Context) (t u : Term) → EqualIn c t u → DifferWider c t u → (n : ℕ) × Clash c n
+equal-clash : (c : Context) (t u : Term) → EqualIn c t u → Differ c t u → (n : ℕ) × Clash c n
 equal-clash c t u e w = (w .0, (w .1, adding-equal c t u e (w .2)))
 
-pub consistent-wider : (c : Context) → Consistent c → (t u : Term) → EqualIn c t u → DifferWider c t u → ⊥
+pub consistent-wider : (c : Context) → Consistent c → (t u : Term) → EqualIn c t u → Differ c t u → ⊥
 consistent-wider c k t u e w = let x : (n : ℕ) × Clash c n = equal-clash c t u e w in k (x .0) (x .1)
 
-pub wider-self : (c : Context) (t : Term) → DifferWider c t t ↔ ((n : ℕ) × Clash c n)
+pub wider-self : (c : Context) (t : Term) → Differ c t t ↔ ((n : ℕ) × Clash c n)
 wider-self c t = (equal-clash c t t reflexive, λ w. clash-wider c (w .0) (w .1) t t)
 
-wider-by : (c : Context) (t u t′ u′ : Term) → EqualAdding c t′ u′ t u → DifferWider c t u → DifferWider c t′ u′
+wider-by : (c : Context) (t u t′ u′ : Term) → EqualAdding c t′ u′ t u → Differ c t u → Differ c t′ u′
 wider-by c t u t′ u′ e w = (w .0, w .1, adding-by c t u t′ u′ e (w .2))
 
-pub wider-symmetric : (c : Context) (t u : Term) → DifferWider c t u → DifferWider c u t
+pub wider-symmetric : (c : Context) (t u : Term) → Differ c t u → Differ c u t
 wider-symmetric c t u = wider-by c t u u t (symmetric (given added))
 
-pub wider-respects : (c : Context) (t t′ u u′ : Term) → EqualIn c t t′ → EqualIn c u u′ → DifferWider c t u → DifferWider c t′ u′
+pub wider-respects : (c : Context) (t t′ u u′ : Term) → EqualIn c t t′ → EqualIn c u u′ → Differ c t u → Differ c t′ u′
 wider-respects c t t′ u u′ d e =
     wider-by c t u t′ u′ (transitive (adding-more c t′ u′ d) (transitive (given added) (symmetric (adding-more c t′ u′ e))))
 
 pub wider-over : (c d : Context) → ((s t : Term) → EqualIn c s t → EqualIn d s t) → ((s t : Term) → ApartIn c s t → ApartIn d s t)
-    → (t u : Term) → DifferWider c t u → DifferWider d t u
+    → (t u : Term) → Differ c t u → Differ d t u
 wider-over c d equals aparts t u w = (
   a .0,
   a .1,
@@ -134,6 +135,6 @@ with-adding c i j p q = (same-mono to, same-mono back)
     back s t added = given (0, omega arith, refl, refl)
 
 pub wider-rows : (c : Context) (i j : ℕ)
-    → DifferWider c (termAt (c .rows) i) (termAt (c .rows) j) ↔ ((n : ℕ) × Clash (withEquation c i j) n)
+    → Differ c (termAt (c .rows) i) (termAt (c .rows) j) ↔ ((n : ℕ) × Clash (withEquation c i j) n)
 unfolding differencesOf
 wider-rows c i j = (λ w. (w .0, (w .1, with-adding c i j _ _ .1 (w .2))), λ w. (w .0, w .1 .0, with-adding c i j _ _ .0 (w .1 .1)))

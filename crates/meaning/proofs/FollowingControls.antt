@@ -1,25 +1,34 @@
--- Differences that follow, tried at small texts, by computing: one statement over the list.
---     Case, Tried       a text with two rows that differ, or that do not
---     cases, shown      what is easily got wrong: two levels deep, either way round, through a merge, and what only two equations together would do
+-- Differences that follow, tried at small texts.
+--     Case, Tried           a text with two rows that differ, or that do not
+--     cases, shown          what is easily got wrong: two levels deep, either way round, through a merge, and what only two equations together would do
+--     shallow, no-shallow   a finder that follows differences one level only: demand 2 shuts it out
 -- Assumes nothing.
-use mathlib.Core.Bool.{Bool, true, false, not, _&&_}
-use mathlib.Core.List.{List, [], _∷_}
-use mathlib.Core.Path.{_≡_, refl}
+use mathlib.Core.Bool.{Bool, true, false, not, _&&_, _||_}
+use mathlib.Core.List.{List, [], _∷_, map}
+use mathlib.Core.Path.{_≡_, refl, sym, _∙_}
 use Prim.Native.Nat.{ℕ, _<_}
 use Prim.Native.String as S
-use lib.Dec.{ltb}
+use native.Mathlib.Omega.{arith}
+use lib.Dec.{eqb, ltb}
 use borrow.Author.Tests.{ltb-true, not-true}
 use lib.ListN.{length}
-use Rattle.meaning.specs.Context.{termAt, Context, equationsOf, differencesOf}
+use Rattle.meaning.specs.Context.{Row, rowAt, termAt, Context, differences, equationsOf, differencesOf}
+use Rattle.meaning.specs.Rules.{variables, Differ, found}
 use Rattle.meaning.specs.Text.{Read, Reading, faulty, taken, rowsOf, read, narrow, readLines, linesOf, linesFrom, digit, fields, isListed, listedAs, sizeOf, entryOf, rankOf, putContext, put, putClause, firstFailing, isNowhere, nonDigit, legible, known, sized, ranked, room, namedBy, tableOf, noRow, refers, rowsAgree, patternsAgree, agrees, testsOf, firstFault}
-use Rattle.meaning.specs.ByTable.{sameList}
-use Rattle.meaning.specs.Sheet.{bytes}
-use Rattle.meaning.specs.Following.{DifferWider, followsBy}
+use Rattle.meaning.specs.Replies.{Reply, breach, none, refused, Replies}
+use Rattle.meaning.specs.ByTable.{sameList, clashOf, clashFrom}
+use Rattle.meaning.specs.Values.{numbers, number, stages, step, numberOf, met, isOver, held, rowsAt, levels, levelsFrom, levelOf, highest}
+use Rattle.meaning.specs.Following.{followsBy}
+use Rattle.meaning.specs.FirstBy.{firstBy, seek, tryAll, orElse, lowest, breaks, allHoldBy, holdsBy}
+use Rattle.meaning.specs.Sheet.{bytes, further}
+use Rattle.meaning.specs.Demands.{Finder, FindsFirst}
 use Rattle.meaning.proofs.Logic.{and-true-left, and-true-right, false-true}
 use Rattle.meaning.proofs.Progress.{move, total}
 use Rattle.meaning.proofs.Closing.{close, agree, rounds, round, rowsPass, rowPass, statedPass, upto, unite, uniteIf, count}
 use Rattle.meaning.proofs.Taken.{read-formed}
 use Rattle.meaning.proofs.FollowingNumbers.{widerBy, widerBy-inside, widerBy-rows}
+use Rattle.meaning.proofs.Computed.{repOf, verdict}
+use Rattle.meaning.proofs.Sheet.{further-shown}
 
 pub data Case : Type 0 where
   differs stays : S.String → ℕ → ℕ → Case
@@ -30,8 +39,8 @@ Said text i j So =
     (s : Read) × (read narrow (bytes text) ≡ taken s) × (i < length (rowsOf s)) × (j < length (rowsOf s)) × So (s .ledger .context)
 
 abbrev pub Tried : Case → Type 0
-Tried (differs text i j) = Said text i j (λ c. DifferWider c (termAt (c .rows) i) (termAt (c .rows) j))
-Tried (stays text i j) = Said text i j (λ c. DifferWider c (termAt (c .rows) i) (termAt (c .rows) j) → ⊥)
+Tried (differs text i j) = Said text i j (λ c. Differ c (termAt (c .rows) i) (termAt (c .rows) j))
+Tried (stays text i j) = Said text i j (λ c. Differ c (termAt (c .rows) i) (termAt (c .rows) j) → ⊥)
 
 abbrev pub AllTried : List Case → Type 0
 AllTried [] = Unit {0}
@@ -105,3 +114,49 @@ all-tried (e ∷ es) t = (tried e (and-true-left (test e) (all es) t), all-tried
 pub shown : AllTried cases
 unfolding cases all
 shown = all-tried cases refl
+
+-- ---- one level only: demand 2, on f(f(a)) and f(f(b)) that differ
+
+-- two sides have one class, or are one symbol over the same classes
+unfoldable pub level : List Row → (ℕ → ℕ) → ℕ × ℕ → Bool
+level rows rep d =
+    eqb (rep (d .0)) (rep (d .1))
+    || (eqb (rowAt rows (d .0) .symbol) (rowAt rows (d .1) .symbol) && sameList (map rep (rowAt rows (d .0) .args)) (map rep (rowAt rows (d .1) .args)))
+
+unfoldable pub anyLevel : List Row → (ℕ → ℕ) → List (ℕ × ℕ) → Bool
+anyLevel rows rep [] = false
+anyLevel rows rep (d ∷ ds) = level rows rep d || anyLevel rows rep ds
+
+-- the classes of n and m are made one, and nothing else
+unfoldable pub shallowBy : Context → ℕ → ℕ → Bool
+shallowBy c n m = anyLevel (c .rows) (λ i. move n m (repOf c i)) (differences c)
+
+unfoldable pub shallowOn : Reading → Reply
+shallowOn (faulty f) = refused f
+shallowOn (taken s) =
+    let c : Context = s .ledger .context in
+    verdict (s .clause .literals) (clashOf (repOf c) (differences c)) (firstBy (shallowBy c) (c .rows) (repOf c) (length (c .rows)) (s .clause))
+
+unfoldable pub shallow : Finder
+shallow text = shallowOn (read narrow text)
+
+-- with the rule x unequal b
+unfoldable twoLevels : List ℕ
+twoLevels = bytes "01000100\n01000200\n0101010100\n0101010101\n0101010102\n0101010103\n030405\n0400\n05000200\n070001\n"
+
+unfoldable oneLevel : List ℕ
+oneLevel = bytes "01000100\n01000200\n0101010100\n0101010101\n030203\n0400\n05000200\n070001\n"
+
+two-reply : Replies narrow twoLevels (breach (0 ∷ []))
+unfolding twoLevels further
+two-reply = further-shown .1 .1 .1 .0
+
+shallow-replies : (shallow oneLevel ≡ breach (0 ∷ [])) × (shallow twoLevels ≡ none)
+unfolding oneLevel twoLevels shallow shallowOn shallowBy anyLevel level bytes read readLines linesOf linesFrom digit fields isListed listedAs sizeOf entryOf rankOf putContext putClause put firstFailing isNowhere nonDigit legible known sized ranked room namedBy tableOf noRow refers rowsAgree patternsAgree agrees testsOf firstFault verdict clashOf clashFrom firstBy seek tryAll orElse lowest breaks allHoldBy holdsBy numbers stages number step numberOf met isOver held rowsAt levels levelsFrom levelOf highest variables equationsOf differencesOf sameList close rounds round rowsPass rowPass statedPass upto uniteIf agree unite count move total
+shallow-replies = (refl, refl)
+
+pub no-shallow : FindsFirst shallow → ⊥
+no-shallow d =
+    let e : none ≡ breach (0 ∷ []) = sym (shallow-replies .1) ∙ d twoLevels (found (0 ∷ [])) .1 two-reply in
+    let z : _≡_ {A = ℕ} 0 1 = cc in
+    omega arith

@@ -20,11 +20,11 @@ use borrow.Author.Tests.{ltb-true, lt-ltb}
 use lib.ListN.{length, getD}
 use Rattle.meaning.specs.Context.{Term, term₀, termAt, Context, equationsOf, equations, differences}
 use Rattle.meaning.specs.Equality.{EqualIn, Consistent, Representatives, repAt, symmetric}
-use Rattle.meaning.specs.Rules.{Pattern, variables, instances}
+use Rattle.meaning.specs.Rules.{Pattern, variables, instances, Differ}
 use Rattle.meaning.specs.Formed.{Fit, AllPlaced}
 use Rattle.meaning.specs.ByTable.{apartBy}
 use Rattle.meaning.specs.Values.{numberAt, numbers, stages}
-use Rattle.meaning.specs.Following.{DifferWider, withEquation, followsBy, occursBy}
+use Rattle.meaning.specs.Following.{withEquation, followsBy, occursBy}
 use Rattle.meaning.proofs.Logic.{and-true-left, and-true-right, false-true, bool-same}
 use Rattle.meaning.proofs.Model.{Closed, Val, atRow, eval, reify}
 use Rattle.meaning.proofs.Meaning.{named}
@@ -71,15 +71,15 @@ module _ (c : Context) (fit : Fit c) where
   unfolding widerBy
   by-closing i j hi hj = rw (lt-ltb i (length (c .rows)) hi, lt-ltb j (length (c .rows)) hj) refl
 
-  pub widerBy-rows : (i j : ℕ) → Inside i → Inside j → DifferWider c (row i) (row j) ↔ (widerBy c i j ≡ true)
+  pub widerBy-rows : (i j : ℕ) → Inside i → Inside j → Differ c (row i) (row j) ↔ (widerBy c i j ≡ true)
   unfolding equationsOf
   widerBy-rows i j hi hj =
-      let w : DifferWider c (row i) (row j) ↔ (followsBy (repAt (close (c .rows) ((i, j) ∷ equations c))) (differences c) ≡ true) =
+      let w : Differ c (row i) (row j) ↔ (followsBy (repAt (close (c .rows) ((i, j) ∷ equations c))) (differences c) ≡ true) =
       wider-decided c fit i j hi hj (repAt (close (c .rows) ((i, j) ∷ equations c))) (closing-represents (withEquation c i j) (with-fit c fit i j hi hj)) in
       (λ d. by-closing i j hi hj ∙ w .0 d, λ e. w .1 (sym (by-closing i j hi hj) ∙ e))
 
   -- two tests that both decide it are one
-  widerBy-one : (i j : ℕ) → Inside i → Inside j → (b : Bool) → DifferWider c (row i) (row j) ↔ (b ≡ true) → widerBy c i j ≡ b
+  widerBy-one : (i j : ℕ) → Inside i → Inside j → (b : Bool) → Differ c (row i) (row j) ↔ (b ≡ true) → widerBy c i j ≡ b
   widerBy-one i j hi hj b w = bool-same (widerBy c i j) b (λ e. w .0 (widerBy-rows i j hi hj .1 e)) (λ e. widerBy-rows i j hi hj .0 (w .1 e))
 
   pub widerBy-table : (i j : ℕ) → Inside i → Inside j → (rep : ℕ → ℕ) → Representatives (withEquation c i j) rep
@@ -144,12 +144,12 @@ module _ (c : Context) (fit : Fit c) (free : Consistent c) (rep : ℕ → ℕ) (
       n (omega (arith, closed .low r hr, equal-row (c .rows) (equations c) rep (fit .ordered) (fit .within) closed offset fits ps placed given chosen means p r hp hr .0 d))
 
   pub wider-numbers : (differs : ℕ → ℕ → Bool)
-      → ((i j : ℕ) → i < length (c .rows) → j < length (c .rows) → DifferWider c (termAt (c .rows) i) (termAt (c .rows) j) ↔ (differs i j ≡ true))
+      → ((i j : ℕ) → i < length (c .rows) → j < length (c .rows) → Differ c (termAt (c .rows) i) (termAt (c .rows) j) ↔ (differs i j ≡ true))
       → ((n m : ℕ) → (length (c .rows) ≤ n) ⊎ (length (c .rows) ≤ m) → differs n m ≡ false)
-      → (p q : ℕ) → p < length ps → q < length ps → DifferWider c (inst p) (inst q) ↔ (differs (num p) (num q) ≡ true)
+      → (p q : ℕ) → p < length ps → q < length ps → Differ c (inst p) (inst q) ↔ (differs (num p) (num q) ≡ true)
   wider-numbers differs right out p q hp hq = go (decLt (num p) (length (c .rows))) (decLt (num q) (length (c .rows)))
     where
-      go : Dec (num p < length (c .rows)) → Dec (num q < length (c .rows)) → DifferWider c (inst p) (inst q) ↔ (differs (num p) (num q) ≡ true)
+      go : Dec (num p < length (c .rows)) → Dec (num q < length (c .rows)) → Differ c (inst p) (inst q) ↔ (differs (num p) (num q) ≡ true)
       go (yes h) (yes l) = (
         λ d. right (num p) (num q) h l .0 (wider-respects c _ _ _ _ (number-row p hp h) (number-row q hq l) d),
         λ e. wider-respects c _ _ _ _ (symmetric (number-row p hp h)) (symmetric (number-row q hq l)) (right (num p) (num q) h l .1 e),
@@ -163,5 +163,5 @@ module _ (c : Context) (fit : Fit c) (free : Consistent c) (rep : ℕ → ℕ) (
         λ e. false-true e (out (num p) (num q) (inr (omega arith))),
       )
 
-  pub wider-instances : (p q : ℕ) → p < length ps → q < length ps → DifferWider c (inst p) (inst q) ↔ (widerBy c (num p) (num q) ≡ true)
+  pub wider-instances : (p q : ℕ) → p < length ps → q < length ps → Differ c (inst p) (inst q) ↔ (widerBy c (num p) (num q) ≡ true)
   wider-instances = wider-numbers (widerBy c) (widerBy-rows c fit) (widerBy-outside c)

@@ -13,9 +13,9 @@ use native.Mathlib.Omega.{arith}
 use native.Mathlib.Decide.{ℕ-discrete, decLt}
 use lib.ListN.{length}
 use Rattle.meaning.specs.Context.{Row, Term, Terms, node, stop, more, termAt, Context, equations}
-use Rattle.meaning.specs.Equality.{EqualIn, Equal, Same, Consistent, repAt, given, symmetric}
+use Rattle.meaning.specs.Equality.{EqualIn, Equal, Same, Adding, stated, added, EqualAdding, Consistent, repAt, given, symmetric}
+use Rattle.meaning.specs.Rules.{Differ}
 use Rattle.meaning.specs.Formed.{Ordered, Within, Fit}
-use Rattle.meaning.specs.Following.{Adding, stated, added, EqualAdding, DifferWider}
 use Rattle.meaning.proofs.Model.{Closed, Val, Vals, Val-discrete, atRow, app, vstop, vmore, rowVals, settle, eval, evals, reify}
 use Rattle.meaning.proofs.Meaning.{Answer, answer, eval-row, named, meaning-rows}
 use Rattle.meaning.proofs.Least.{Each, least}
@@ -175,9 +175,9 @@ pub outside-keeps : (c : Context) → Fit c → (t u : Term) → Outside c t →
     → EqualAdding c t u (termAt (c .rows) i) (termAt (c .rows) j) → EqualIn c (termAt (c .rows) i) (termAt (c .rows) j)
 outside-keeps c fit = keeps-by c fit (repAt (close (c .rows) (equations c))) (close-closed (c .rows) (equations c) (fit .ordered) (fit .within))
 
-pub outside-wider : (c : Context) → Fit c → Consistent c → (t : Term) → Outside c t → (u : Term) → (DifferWider c t u → ⊥) × (DifferWider c u t → ⊥)
+pub outside-wider : (c : Context) → Fit c → Consistent c → (t : Term) → Outside c t → (u : Term) → (Differ c t u → ⊥) × (Differ c u t → ⊥)
 outside-wider c fit k t out u = (never, λ w. never (wider-symmetric c u t w))
   where
-    never : DifferWider c t u → ⊥
+    never : Differ c t u → ⊥
     never w =
         k (w .0) (w .1, outside-keeps c fit t u out _ _ (fit .apart (w .0) (w .1) .0) (fit .apart (w .0) (w .1) .1) (w .2))

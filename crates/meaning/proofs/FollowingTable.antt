@@ -18,9 +18,10 @@ use borrow.Author.Tests.{eqb-true, eqb-false, eq-eqb}
 use lib.ListN.{length}
 use Rattle.meaning.specs.Context.{Row, rowAt, termAt, Context, equationsOf, equations, differencesOf, differences, leftAt, rightAt}
 use Rattle.meaning.specs.Equality.{Equal, Consistent, Clash, Representatives, symmetric, transitive}
+use Rattle.meaning.specs.Rules.{Differ}
 use Rattle.meaning.specs.Formed.{Fit}
 use Rattle.meaning.specs.ByTable.{first, clear, clashOf, apartBy}
-use Rattle.meaning.specs.Following.{DifferWider, withEquation, followsBy, amongBy, argumentBy, sideBy, occursBy}
+use Rattle.meaning.specs.Following.{withEquation, followsBy, amongBy, argumentBy, sideBy, occursBy}
 use Rattle.meaning.proofs.Logic.{or-cases, or-left, or-right, or-none}
 use Rattle.meaning.proofs.Model.{Closed}
 use Rattle.meaning.proofs.Progress.{Sofar, move, move-cases}
@@ -66,7 +67,7 @@ follows-clear rep ds e = go (followsBy rep ds) refl
 
 pub wider-decided : (c : Context) → Fit c → (i j : ℕ) → i < length (c .rows) → j < length (c .rows)
     → (rep : ℕ → ℕ) → Representatives (withEquation c i j) rep
-    → DifferWider c (termAt (c .rows) i) (termAt (c .rows) j) ↔ (followsBy rep (differences c) ≡ true)
+    → Differ c (termAt (c .rows) i) (termAt (c .rows) j) ↔ (followsBy rep (differences c) ≡ true)
 unfolding differencesOf
 wider-decided c fit i j hi hj rep r = (
   λ w.
@@ -85,7 +86,7 @@ wider-decided c fit i j hi hj rep r = (
 -- ---- the pair is stated apart
 
 pub stated-apart : (c : Context) → Fit c → (rep : ℕ → ℕ) → Representatives c rep → (i j : ℕ) → i < length (c .rows) → j < length (c .rows)
-    → apartBy rep (differences c) (rep i) (rep j) ≡ true → DifferWider c (termAt (c .rows) i) (termAt (c .rows) j)
+    → apartBy rep (differences c) (rep i) (rep j) ≡ true → Differ c (termAt (c .rows) i) (termAt (c .rows) j)
 stated-apart c fit rep r i j hi hj e = apart-wider c _ _ (apart-rows c fit rep r i j hi hj .1 e)
 
 -- ---- a class that occurs nowhere
@@ -199,7 +200,7 @@ module _ (c : Context) (fit : Fit c) (rep : ℕ → ℕ) (r : Representatives c 
             × ((k : ℕ) → k < length (differences c) → (rep (leftAt (differences c) k) ≡ rep i → ⊥) × (rep (rightAt (differences c) k) ≡ rep i → ⊥))
         free = occurs-at rep (rep i) (c .rows) (differences c) e
 
-    unused-differs : Consistent c → occursBy rep (c .rows) (differences c) (rep i) ≡ false → DifferWider c (termAt (c .rows) i) (termAt (c .rows) j) → ⊥
+    unused-differs : Consistent c → occursBy rep (c .rows) (differences c) (rep i) ≡ false → Differ c (termAt (c .rows) i) (termAt (c .rows) j) → ⊥
     unfolding equationsOf
     unused-differs k e w =
         let m : Representatives (withEquation c i j) merged =
@@ -213,16 +214,16 @@ module _ (c : Context) (fit : Fit c) (rep : ℕ → ℕ) (r : Representatives c 
               (move-other rep (rep i) lo up one _ _ (f .0) (f .1) (x .1 .1)),
         )
 
-  unused-left : Consistent c → occursBy rep (c .rows) (differences c) (rep i) ≡ false → DifferWider c (termAt (c .rows) i) (termAt (c .rows) j) → ⊥
+  unused-left : Consistent c → occursBy rep (c .rows) (differences c) (rep i) ≡ false → Differ c (termAt (c .rows) i) (termAt (c .rows) j) → ⊥
   unused-left k e = go (decLt (rep i) (rep j)) (decLt (rep j) (rep i))
     where
-      go : Dec (rep i < rep j) → Dec (rep j < rep i) → DifferWider c (termAt (c .rows) i) (termAt (c .rows) j) → ⊥
+      go : Dec (rep i < rep j) → Dec (rep j < rep i) → Differ c (termAt (c .rows) i) (termAt (c .rows) j) → ⊥
       go (yes h) d = unused-differs (rep i) (rep j) (inl (refl, refl)) h k e
       go (no h) (yes l) = unused-differs (rep j) (rep i) (inr (refl, refl)) l k e
       go (no h) (no l) = consistent-wider c k _ _ (model-rows c fit rep r i j hi hj .1 (omega arith))
 
 pub unused-wider : (c : Context) → Fit c → Consistent c → (rep : ℕ → ℕ) → Representatives c rep → (i j : ℕ) → i < length (c .rows) → j < length (c .rows)
     → (occursBy rep (c .rows) (differences c) (rep i) ≡ false) ⊎ (occursBy rep (c .rows) (differences c) (rep j) ≡ false)
-    → DifferWider c (termAt (c .rows) i) (termAt (c .rows) j) → ⊥
+    → Differ c (termAt (c .rows) i) (termAt (c .rows) j) → ⊥
 unused-wider c fit k rep r i j hi hj (inl e) w = unused-left c fit rep r i j hi hj k e w
 unused-wider c fit k rep r i j hi hj (inr e) w = unused-left c fit rep r j i hj hi k e (wider-symmetric c _ _ w)

@@ -1,20 +1,25 @@
 -- Grounds tried: a checker that answers as defined refuses, at its place, what careless ones take. The context has the rows a, b, g(a,a) and g(a,b), and states
--- that a and b differ; the pattern rows are the same four terms. It states no equation, so that no two of the four are equal.
+-- that a and b differ; the pattern rows are the same four terms. It states no equation, so that no two of the four are equal, and g(a,a) and g(a,b) do not differ.
 --     Checker, Right     a candidate; it answers as defined
 --     some-..            grounds that are accepted
---     no-..              grounds that are refused, and that no breach stands behind
+--     no-..              grounds that are refused; where `Refuses` says so, no breach stands behind them
 -- Assumes nothing.
 use mathlib.Core.List.{List, [], _∷_}
 use mathlib.Core.Path.{_≡_, refl, ap, ap₂, sym, _∙_}
 use Prim.Native.Nat.{ℕ, zero, suc}
 use native.Mathlib.Omega.{arith}
-use Rattle.meaning.specs.Context.{Term, Terms, node, stop, more, pick, differ, Context, equations, equationsOf, differences, differencesOf}
+use Rattle.meaning.specs.Context.{Term, Terms, node, stop, more, pick, terms, grow, differ, Context, equations, equationsOf, differences, differencesOf}
 use Rattle.meaning.specs.Equality.{Sames, Stated, EqualIn, given, reflexive, symmetric, transitive, congruent, same-stop, same-more}
 use Rattle.meaning.specs.Rules.{apply, variables, instances, fill, instance, rangeOf, Literal, equal, unequal, Clause, Breach}
-use Rattle.meaning.specs.Formed.{Formed, Ordered, Within, NamesAll}
+use Rattle.meaning.specs.Formed.{Fit, Formed, Ordered, Within, NamesAll}
 use Rattle.meaning.specs.ByTable.{sameList}
 use Rattle.meaning.specs.Grounds.{Ref, Step, Conclusion, conclusionFor, Verdict, accepted, bad, unconcluded, Verified}
-use Rattle.meaning.specs.Checking.{entryOf, entries, keyOf, keysOf, sameKey, numbered, alike, numberLike, numbersTo, numbersOf, numberBelow, sideOf, counts, oriented, sidesBy, citedBy, pairedBy, metBy, eachBy, congruentBy, derivesBy, followsBy, apartBySteps, concludesBy, firstFalse, assignedBy, choose, concludedBy, verdictBy}
+use Rattle.meaning.specs.Checking.{entryOf, entries, keyOf, keysOf, sameKey, numbered, alike, numberLike, numbersTo, numbersOf, numberBelow, sideOf, counts, isUnequal, ownerBy, sidesBy, usedBy, citedBy, pairedBy, metBy, eachBy, congruentBy, addsBy, addedBy, derivesBy, followsBy, differsBySteps, concludesBy, firstFalse, assignedBy, choose, concludedBy, verdictBy}
+use Rattle.meaning.specs.Following as F
+use Rattle.meaning.proofs.Logic.{false-true}
+use Rattle.meaning.proofs.Progress.{move, total}
+use Rattle.meaning.proofs.Closing.{close, agree, rounds, round, rowsPass, rowPass, statedPass, upto, unite, uniteIf, count}
+use Rattle.meaning.proofs.FollowingNumbers.{widerBy, widerBy-rows}
 use Rattle.meaning.proofs.Grounded.{verdict-one}
 use Rattle.meaning.proofs.Verdicts.{verdictBy-verified}
 
@@ -53,11 +58,14 @@ unfolding differencesOf
 four-apart zero h = (omega arith, omega arith)
 four-apart (suc i) h = absurd (omega arith)
 
-rule-formed : (ls : List Literal) → NamesAll 4 ls → Formed four (rule ls)
+four-fit : Fit four
 unfolding equationsOf
+four-fit = record { ordered = four-ordered; within = λ k h. absurd (omega arith); apart = four-apart }
+
+rule-formed : (ls : List Literal) → NamesAll 4 ls → Formed four (rule ls)
 rule-formed ls w =
     record {
-      fit = record { ordered = four-ordered; within = λ k h. absurd (omega arith); apart = four-apart };
+      fit = four-fit;
       placed = (tt, (tt, ((omega arith, (omega arith, tt)), ((omega arith, (omega arith, tt)), tt))));
       named = w;
     }
@@ -98,6 +106,11 @@ no-unlike-args a b =
     let z : _≡_ {A = ℕ} 1 2 = cc in
     omega arith
 
+-- g(a,a) and g(a,b) may well be one without a and b being one
+no-alike-args : (a : List ℕ) (ls : List Literal) → Breach four (rangeOf four) (rule (unequal 2 3 ∷ ls)) a → ⊥
+unfolding instances fill instance pick terms grow widerBy F.followsBy close rounds round rowsPass rowPass statedPass upto uniteIf agree unite count move total sameList equationsOf differencesOf
+no-alike-args a ls b = false-true (widerBy-rows four four-fit 2 3 (omega arith) (omega arith) .0 (b .holds .0)) refl
+
 -- ---- grounds
 
 abbrev at-row : ℕ → Ref
@@ -106,34 +119,42 @@ at-row i = record { mark = 0; row = i }
 abbrev at-instance : ℕ → Ref
 at-instance i = record { mark = 1; row = i }
 
--- a step with two numbers
-abbrev stepOf : ℕ → Ref → Ref → ℕ → ℕ → Step
-stepOf kind l r x y = record { owner = 0; kind = kind; left = l; right = r; numbers = x ∷ y ∷ 0 ∷ 0 ∷ [] }
+-- a step of an owner and a kind, with two numbers
+abbrev stepOf : ℕ → ℕ → Ref → Ref → ℕ → ℕ → Step
+stepOf owner kind l r x y = record { owner = owner; kind = kind; left = l; right = r; numbers = x ∷ y ∷ 0 ∷ 0 ∷ [] }
 
--- literal l by step s
+-- literal l by step s, and by the difference of a and b where it is unequal; the other two numbers are not read
 abbrev shown : ℕ → ℕ → Conclusion
-shown l s = record { literal = l; first = s; second = 0; difference = 0; orientation = 0 }
-
--- literal 1 by steps 1 and 2 and the difference of a and b, in an orientation
-abbrev shownApart : ℕ → List Conclusion
-shownApart o = record { literal = 1; first = 1; second = 2; difference = 1; orientation = o } ∷ []
+shown l s = record { literal = l; first = s; second = 9; difference = 1; orientation = 9 }
 
 -- a = b by itself
 abbrev self : List Step
-self = stepOf 3 (at-instance 0) (at-instance 1) 1 0 ∷ []
+self = stepOf 0 3 (at-instance 0) (at-instance 1) 1 0 ∷ []
 
 -- a = a, and g(a,a) = g(a,b) by that alone
 abbrev oneArgument : List Step
-oneArgument = stepOf 2 (at-row 0) (at-instance 0) 0 0 ∷ stepOf 5 (at-instance 2) (at-instance 3) 1 0 ∷ []
+oneArgument = stepOf 0 2 (at-row 0) (at-instance 0) 0 0 ∷ stepOf 0 5 (at-instance 2) (at-instance 3) 1 0 ∷ []
 
 -- a = a and b = b, and a = b by these
 abbrev unequalMiddles : List Step
 unequalMiddles =
-    stepOf 2 (at-instance 0) (at-row 0) 0 0 ∷ stepOf 2 (at-row 1) (at-instance 1) 0 0 ∷ stepOf 4 (at-instance 0) (at-instance 1) 1 2 ∷ []
+    stepOf 0 2 (at-instance 0) (at-row 0) 0 0 ∷ stepOf 0 2 (at-row 1) (at-instance 1) 0 0 ∷ stepOf 0 4 (at-instance 0) (at-instance 1) 1 2 ∷ []
 
--- the instances a and b are the rows a and b
+-- the instance a is the row a
 abbrev linked : List Step
-linked = stepOf 2 (at-instance 0) (at-row 0) 0 0 ∷ stepOf 2 (at-instance 1) (at-row 1) 0 0 ∷ []
+linked = stepOf 0 2 (at-instance 0) (at-row 0) 0 0 ∷ []
+
+-- a = b, added for a literal
+abbrev addedFor : ℕ → List Step
+addedFor l = stepOf l 6 (at-instance 0) (at-instance 1) 0 0 ∷ []
+
+-- b = a, added for literal 1, and turned round by an owner
+abbrev addedTurned : ℕ → List Step
+addedTurned o = stepOf 1 6 (at-instance 1) (at-row 0) 0 0 ∷ stepOf o 3 (at-row 0) (at-row 1) 1 0 ∷ []
+
+-- a = b, added for literal 2, and turned round twice for literal 1
+abbrev addedForOther : List Step
+addedForOther = stepOf 2 6 (at-instance 0) (at-instance 1) 0 0 ∷ stepOf 1 3 (at-row 1) (at-row 0) 1 0 ∷ stepOf 1 3 (at-row 0) (at-row 1) 2 0 ∷ []
 
 abbrev same : List Literal
 same = equal 0 0 ∷ []
@@ -141,8 +162,17 @@ same = equal 0 0 ∷ []
 abbrev distinct : List Literal
 distinct = unequal 0 1 ∷ []
 
+abbrev distinctTurned : List Literal
+distinctTurned = unequal 1 0 ∷ []
+
 abbrev twoLiterals : List Literal
 twoLiterals = equal 0 1 ∷ equal 0 0 ∷ []
+
+abbrev bothUnequal : List Literal
+bothUnequal = unequal 2 3 ∷ unequal 0 1 ∷ []
+
+abbrev unlikeDistinct : List Literal
+unlikeDistinct = equal 0 1 ∷ unequal 0 1 ∷ []
 
 abbrev verdict : List Literal → List Step → List Conclusion → Verdict
 verdict ls steps ds = verdictBy four (rule ls) [] steps ds
@@ -151,12 +181,24 @@ computed :
     (verdict unlike self (shown 1 1 ∷ []) ≡ bad 1)
     × (verdict unlikeArgs oneArgument (shown 1 2 ∷ []) ≡ bad 2)
     × (verdict unlike unequalMiddles (shown 1 3 ∷ []) ≡ bad 3)
-    × (verdict distinct linked (shownApart 0) ≡ accepted)
-    × (verdict distinct linked (shownApart 1) ≡ unconcluded 1)
     × (verdict twoLiterals linked (shown 2 1 ∷ []) ≡ unconcluded 1)
     × (verdict same self (shown 1 1 ∷ []) ≡ bad 1)
-unfolding entryOf entries keyOf keysOf sameKey numbered alike numberLike numbersTo numbersOf numberBelow sideOf counts oriented sidesBy citedBy pairedBy metBy eachBy congruentBy derivesBy followsBy apartBySteps concludesBy firstFalse assignedBy choose concludedBy verdictBy sameList conclusionFor variables equationsOf differencesOf
-computed = (refl, refl, refl, refl, refl, refl, refl)
+unfolding entryOf entries keyOf keysOf sameKey numbered alike numberLike numbersTo numbersOf numberBelow sideOf counts isUnequal ownerBy sidesBy usedBy citedBy pairedBy metBy eachBy congruentBy addsBy addedBy derivesBy followsBy differsBySteps concludesBy firstFalse assignedBy choose concludedBy verdictBy sameList conclusionFor variables equationsOf differencesOf
+computed = (refl, refl, refl, refl, refl)
+
+computed-owners :
+    (verdict distinct (addedFor 1) (shown 1 1 ∷ []) ≡ accepted)
+    × (verdict distinctTurned (addedTurned 1) (shown 1 2 ∷ []) ≡ accepted)
+    × (verdict distinctTurned (addedTurned 1) (shown 1 1 ∷ []) ≡ unconcluded 1)
+    × (verdict distinctTurned (addedTurned 0) (shown 1 2 ∷ []) ≡ bad 2)
+    × (verdict bothUnequal addedForOther (shown 1 3 ∷ shown 2 1 ∷ []) ≡ bad 2)
+    × (verdict bothUnequal (addedFor 2) (shown 1 1 ∷ shown 2 1 ∷ []) ≡ unconcluded 1)
+    × (verdict unlikeDistinct (addedFor 2) (shown 1 1 ∷ shown 2 1 ∷ []) ≡ unconcluded 1)
+    × (verdict distinct (addedFor 0) (shown 1 1 ∷ []) ≡ bad 1)
+    × (verdict unlike (addedFor 1) (shown 1 1 ∷ []) ≡ bad 1)
+    × (verdict distinct (addedFor 2) (shown 1 1 ∷ []) ≡ bad 1)
+unfolding entryOf entries keyOf keysOf sameKey numbered alike numberLike numbersTo numbersOf numberBelow sideOf counts isUnequal ownerBy sidesBy usedBy citedBy pairedBy metBy eachBy congruentBy addsBy addedBy derivesBy followsBy differsBySteps concludesBy firstFalse assignedBy choose concludedBy verdictBy sameList conclusionFor variables equationsOf differencesOf
+computed-owners = (refl, refl, refl, refl, refl, refl, refl, refl, refl, refl)
 
 -- what a right checker answers is what is computed
 answers : (f : Checker) → Right f → (ls : List Literal) → NamesAll 4 ls → (steps : List Step) (ds : List Conclusion) (v : Verdict) → verdict ls steps ds ≡ v
@@ -185,15 +227,47 @@ module _ (f : Checker) (right : Right f) where
   -- a literal that nothing concludes, before one that is concluded
   pub no-literal-skipped : Refuses f twoLiterals linked (shown 2 1 ∷ []) (unconcluded 1)
   no-literal-skipped =
-      (answers f right twoLiterals ((omega arith, omega arith), ((omega arith, omega arith), tt)) _ _ _ (computed .5), λ a. no-unlike a same)
-
-  pub some-apart : f four (rule distinct) [] linked (shownApart 0) ≡ accepted
-  some-apart = answers f right distinct ((omega arith, omega arith), tt) _ _ _ (computed .3)
-
-  -- the same steps in the other orientation
-  pub no-other-orientation : f four (rule distinct) [] linked (shownApart 1) ≡ unconcluded 1
-  no-other-orientation = answers f right distinct ((omega arith, omega arith), tt) _ _ _ (computed .4)
+      (answers f right twoLiterals ((omega arith, omega arith), ((omega arith, omega arith), tt)) _ _ _ (computed .3), λ a. no-unlike a same)
 
   -- a wrong step that nothing needs
   pub no-unused-step : f four (rule same) [] self (shown 1 1 ∷ []) ≡ bad 1
-  no-unused-step = answers f right same ((omega arith, omega arith), tt) _ _ _ (computed .6)
+  no-unused-step = answers f right same ((omega arith, omega arith), tt) _ _ _ (computed .4)
+
+  -- the added equation, as it stands and turned round
+  pub some-added : f four (rule distinct) [] (addedFor 1) (shown 1 1 ∷ []) ≡ accepted
+  some-added = answers f right distinct ((omega arith, omega arith), tt) _ _ _ (computed-owners .0)
+
+  pub some-turned : f four (rule distinctTurned) [] (addedTurned 1) (shown 1 2 ∷ []) ≡ accepted
+  some-turned = answers f right distinctTurned ((omega arith, omega arith), tt) _ _ _ (computed-owners .1)
+
+  -- the sides of the difference the other way round
+  pub no-other-order : f four (rule distinctTurned) [] (addedTurned 1) (shown 1 1 ∷ []) ≡ unconcluded 1
+  no-other-order = answers f right distinctTurned ((omega arith, omega arith), tt) _ _ _ (computed-owners .2)
+
+  -- a shared step that cites an owned one
+  pub no-sharing : f four (rule distinctTurned) [] (addedTurned 0) (shown 1 2 ∷ []) ≡ bad 2
+  no-sharing = answers f right distinctTurned ((omega arith, omega arith), tt) _ _ _ (computed-owners .3)
+
+  -- the added equation of another literal: in a step, and in a conclusion
+  pub no-other-added : Refuses f bothUnequal addedForOther (shown 1 3 ∷ shown 2 1 ∷ []) (bad 2)
+  no-other-added =
+      (answers f right bothUnequal ((omega arith, omega arith), ((omega arith, omega arith), tt)) _ _ _ (computed-owners .4), λ a. no-alike-args a distinct)
+
+  pub no-other-concluded : Refuses f bothUnequal (addedFor 2) (shown 1 1 ∷ shown 2 1 ∷ []) (unconcluded 1)
+  no-other-concluded =
+      (answers f right bothUnequal ((omega arith, omega arith), ((omega arith, omega arith), tt)) _ _ _ (computed-owners .5), λ a. no-alike-args a distinct)
+
+  -- an added equation for an equal literal
+  pub no-equal-added : Refuses f unlikeDistinct (addedFor 2) (shown 1 1 ∷ shown 2 1 ∷ []) (unconcluded 1)
+  no-equal-added =
+      (answers f right unlikeDistinct ((omega arith, omega arith), ((omega arith, omega arith), tt)) _ _ _ (computed-owners .6), λ a. no-unlike a distinct)
+
+  -- an added equation that is shared, that an equal literal owns, and that no literal owns
+  pub no-shared-added : f four (rule distinct) [] (addedFor 0) (shown 1 1 ∷ []) ≡ bad 1
+  no-shared-added = answers f right distinct ((omega arith, omega arith), tt) _ _ _ (computed-owners .7)
+
+  pub no-equal-owner : Refuses f unlike (addedFor 1) (shown 1 1 ∷ []) (bad 1)
+  no-equal-owner = (answers f right unlike ((omega arith, omega arith), tt) _ _ _ (computed-owners .8), λ a. no-unlike a [])
+
+  pub no-such-owner : f four (rule distinct) [] (addedFor 2) (shown 1 1 ∷ []) ≡ bad 1
+  no-such-owner = answers f right distinct ((omega arith, omega arith), tt) _ _ _ (computed-owners .9)

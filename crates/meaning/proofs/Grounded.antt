@@ -1,25 +1,28 @@
 -- What is accepted is a breach, and a verdict is one.
---     stands-one        a reference stands for at most one term
---     step-sound        where each step follows, the sides of each step are equal
---     instances-take    the instances read no place past the number of variables
---     accepted-breach   accepted grounds show a breach, by the places that are read
---     verdict-one       two verdicts on the same grounds are the same
+--     stands-one                   a reference stands for at most one term
+--     SameFor                      derivable from the stated equations and the equation of the literal that owns
+--     shared-equal, owned-adding   for owner 0 that is to be equal, and for an unequal literal with its equation added
+--     step-sound, cited-same       where each step follows, the sides of each step are the same for its owner
+--     instances-take               the instances read no place past the number of variables
+--     accepted-breach              accepted grounds show a breach, by the places that are read
+--     verdict-one                  two verdicts on the same grounds are the same
 -- Assumes nothing.
 use mathlib.Core.Bool.{Bool, true, false}
 use mathlib.Core.List.{List, [], _∷_, _++_}
-use mathlib.Core.Path.{_≡_, refl, ap, sym, _∙_, subst}
-use mathlib.Core.Logic.{inl, inr}
+use mathlib.Core.Path.{_≡_, refl, ap, sym, _∙_, subst, subst₂}
+use mathlib.Core.Logic.{⊎-elim}
 use Prim.Native.Nat.{ℕ, zero, suc, _≤_, _<_}
 use native.Mathlib.Omega.{arith}
 use lib.Dec.{ltb}
 use borrow.Author.Tests.{ltb-true, ltb-false}
 use lib.ListN.{length, getD, take, length-take}
 use lib.Seq.{getD-take, length-take-le}
-use Rattle.meaning.specs.Context.{Term, Terms, term₀, Context, equations}
-use Rattle.meaning.specs.Equality.{Sames, EqualIn, ApartIn, Stated, given, reflexive, symmetric, transitive, congruent, same-stop, same-more}
+use Rattle.meaning.specs.Context.{Term, Terms, term₀, Context, equations, differences}
+use Rattle.meaning.specs.Equality.{Same, Sames, EqualIn, EqualAdding, stated, added, Stated, given, reflexive, symmetric, transitive, congruent, same-stop, same-more}
 use Rattle.meaning.specs.Rules.{Pattern, variable, apply, variables, instance, fill, instances, choice, rangeOf, Below, Literal, equal, unequal, Clause, Holds, AllHold, Breach}
-use Rattle.meaning.specs.Grounds.{Ref, Step, Conclusion, stepAt, literalAt, PairAt, instancesOf, Stands, for-row, for-instance, Cites, CitesEach, each-stop, each-more, Derives, by-statement, by-reflexivity, by-symmetry, by-transitivity, by-congruence, Follows, ShowsApart, straight, crosswise, Concludes, conclusionFor, Verdict, Each, FirstNot, Assigned, FollowsAt, ConcludedAt, Verified, accepted, unassigned, bad, unconcluded, accepts, unassigns, refuses, leaves-open}
+use Rattle.meaning.specs.Grounds.{Ref, Step, Conclusion, stepAt, literalAt, PairAt, instancesOf, instanceAt, Stands, for-row, for-instance, UnequalAt, Cites, CitesEach, each-stop, each-more, Derives, by-statement, by-reflexivity, by-symmetry, by-transitivity, by-congruence, by-addition, Follows, ShowsDiffer, Concludes, conclusionFor, Verdict, Each, FirstNot, Assigned, FollowsAt, ConcludedAt, Verified, accepted, unassigned, bad, unconcluded, accepts, unassigns, refuses, leaves-open}
 use Rattle.meaning.proofs.Table.{length-terms}
+use Rattle.meaning.proofs.Pairs.{same-mono}
 
 -- ---- steps are sound
 
@@ -30,31 +33,67 @@ module _ (c : Context) (k : Clause) (a : List ℕ) where
   stands-one r t u (for-instance m i e) (for-row n j f) = absurd (omega arith)
   stands-one r t u (for-instance m i e) (for-instance n j f) = e ∙ sym f
 
-  pair-stated : (n : ℕ) (t u : Term) → PairAt (c .rows) (equations c) n t u → EqualIn c t u
-  pair-stated n t u p = given (p .place, p .inside, p .left, p .right)
+  -- what a step of an owner may use: the stated equations, and the equation of its literal
+  pub data Usable (owner : ℕ) : Term → Term → Type 0 where
+    equation : {t u : Term} → Stated (c .rows) (equations c) t u → Usable owner t u
+    addition : {t u : Term} → UnequalAt c k a owner t u → Usable owner t u
 
-  -- step i of some steps has equal sides, whatever its sides are
+  abbrev pub SameFor : ℕ → Term → Term → Type 0
+  SameFor owner = Same (Usable owner)
+
+  -- no literal has number 0
+  shared-usable : (owner : ℕ) (t u : Term) → Usable 0 t u → SameFor owner t u
+  shared-usable owner t u (equation g) = given (equation g)
+  shared-usable owner t u (addition w) = absurd (omega (arith, w .counted))
+
+  pub shared-equal : {t u : Term} → SameFor 0 t u → EqualIn c t u
+  shared-equal = same-mono each
+    where
+      each : (t u : Term) → Usable 0 t u → EqualIn c t u
+      each t u (equation g) = given g
+      each t u (addition w) = absurd (omega (arith, w .counted))
+
+  -- by the added equation of the literal, whose instances are one pair of terms
+  pub owned-adding : (i p q : ℕ) → literalAt (k .literals) i ≡ unequal p q → {t u : Term} → SameFor (suc i) t u
+      → EqualAdding c (instanceAt c k a p) (instanceAt c k a q) t u
+  owned-adding i p q e = same-mono each
+    where
+      each : (t u : Term) → Usable (suc i) t u → EqualAdding c (instanceAt c k a p) (instanceAt c k a q) t u
+      each t u (equation g) = given (stated g)
+      each t u (addition w) =
+          let h : w .place ≡ i = omega (arith, w .counted) in
+          let f : unequal (w .leftRow) (w .rightRow) ≡ unequal p q = sym (w .literal) ∙ ap (literalAt (k .literals)) h ∙ e in
+          let x : w .leftRow ≡ p = cc in
+          let y : w .rightRow ≡ q = cc in
+          subst₂ (EqualAdding c (instanceAt c k a p) (instanceAt c k a q)) (sym (w .left ∙ ap (instanceAt c k a) x)) (sym (w .right ∙ ap (instanceAt c k a) y)) (given added)
+
+  -- step i of some steps has sides that are the same for its owner, whatever its sides are
   abbrev Sound : List Step → ℕ → Type 0
-  Sound steps i = (t u : Term) → Stands c k a (stepAt steps i .left) t → Stands c k a (stepAt steps i .right) u → EqualIn c t u
+  Sound steps i = (t u : Term) → Stands c k a (stepAt steps i .left) t → Stands c k a (stepAt steps i .right) u → SameFor (stepAt steps i .owner) t u
 
-  cites-equal : (steps : List Step) → Each (length steps) (Sound steps) → (n : ℕ) (t u : Term) → Cites c k a steps n t u → EqualIn c t u
-  cites-equal steps w n t u d = w (d .place) (d .inside) t u (d .left) (d .right)
+  cites-same : (steps : List Step) → Each (length steps) (Sound steps) → (owner n : ℕ) (t u : Term) → Cites c k a steps owner n t u → SameFor owner t u
+  cites-same steps w owner n t u d =
+      ⊎-elim (λ e. same-mono (shared-usable owner) (subst (λ (o : ℕ). SameFor o t u) e here)) (λ e. subst (λ (o : ℕ). SameFor o t u) e here) (d .usable)
+    where
+      here : SameFor (stepAt steps (d .place) .owner) t u
+      here = w (d .place) (d .inside) t u (d .left) (d .right)
 
-  each-equal : (steps : List Step) → Each (length steps) (Sound steps) → {ns : List ℕ} {ts us : Terms} → CitesEach c k a steps ns ts us
-      → Sames (Stated (c .rows) (equations c)) ts us
-  each-equal steps w each-stop = same-stop
-  each-equal steps w (each-more {n} {ns} {t} {u} d ds) = same-more (cites-equal steps w n t u d) (each-equal steps w ds)
+  each-same : (steps : List Step) → Each (length steps) (Sound steps) → (owner : ℕ) {ns : List ℕ} {ts us : Terms} → CitesEach c k a steps owner ns ts us
+      → Sames (Usable owner) ts us
+  each-same steps w owner each-stop = same-stop
+  each-same steps w owner (each-more {n} {ns} {t} {u} d ds) = same-more (cites-same steps w owner n t u d) (each-same steps w owner ds)
 
-  derives-equal : (earlier : List Step) → Each (length earlier) (Sound earlier) → (s : Step) (t u : Term) → Derives c k a earlier s t u → EqualIn c t u
-  derives-equal earlier w s t u (by-statement e p) = pair-stated _ t u p
-  derives-equal earlier w s t u (by-reflexivity e p) = subst (λ (x : Term). EqualIn c t x) p reflexive
-  derives-equal earlier w s t u (by-symmetry e d) = symmetric (cites-equal earlier w _ u t d)
-  derives-equal earlier w s t u (by-transitivity e m d f) = transitive (cites-equal earlier w _ t m d) (cites-equal earlier w _ m u f)
-  derives-equal earlier w s t u (by-congruence e f ts us p q d) = rw (p, q) (congruent (each-equal earlier w d))
+  derives-same : (earlier : List Step) → Each (length earlier) (Sound earlier) → (s : Step) (t u : Term) → Derives c k a earlier s t u → SameFor (s .owner) t u
+  derives-same earlier w s t u (by-statement e p) = given (equation (p .place, p .inside, p .left, p .right))
+  derives-same earlier w s t u (by-reflexivity e p) = subst (λ (x : Term). SameFor (s .owner) t x) p reflexive
+  derives-same earlier w s t u (by-symmetry e d) = symmetric (cites-same earlier w (s .owner) _ u t d)
+  derives-same earlier w s t u (by-transitivity e m d f) = transitive (cites-same earlier w (s .owner) _ t m d) (cites-same earlier w (s .owner) _ m u f)
+  derives-same earlier w s t u (by-congruence e f ts us p q d) = rw (p, q) (congruent (each-same earlier w (s .owner) d))
+  derives-same earlier w s t u (by-addition e p) = given (addition p)
 
   follows-sound : (steps : List Step) (i : ℕ) → Each (length (take i steps)) (Sound (take i steps)) → Follows c k a (take i steps) (stepAt steps i) → Sound steps i
   follows-sound steps i w f t u p q =
-      rw (stands-one _ t (f .leftTerm) p (f .left), stands-one _ u (f .rightTerm) q (f .right)) (derives-equal (take i steps) w (stepAt steps i) _ _ (f .derives))
+      rw (stands-one _ t (f .leftTerm) p (f .left), stands-one _ u (f .rightTerm) q (f .right)) (derives-same (take i steps) w (stepAt steps i) _ _ (f .derives))
 
   sound-take : (steps : List Step) (i : ℕ) → ((j : ℕ) → j < i → j < length steps → Sound steps j) → Each (length (take i steps)) (Sound (take i steps))
   sound-take steps i w j b =
@@ -72,18 +111,14 @@ module _ (c : Context) (k : Clause) (a : List ℕ) where
 
     -- ---- literals
 
-    cited-equal : (n : ℕ) (t u : Term) → Cites c k a steps n t u → EqualIn c t u
-    cited-equal = cites-equal steps step-sound
+    pub cited-same : (owner n : ℕ) (t u : Term) → Cites c k a steps owner n t u → SameFor owner t u
+    cited-same = cites-same steps step-sound
 
-    shows-apart : (d : Conclusion) (t u : Term) → ShowsApart c k a steps d t u → ApartIn c t u
-    shows-apart d t u (straight o p q x f g) =
-        (x .place, x .inside, inl (subst (EqualIn c t) (x .left) (cited-equal _ t p f), subst (EqualIn c u) (x .right) (cited-equal _ u q g)))
-    shows-apart d t u (crosswise o p q x f g) =
-        (x .place, x .inside, inr (subst (EqualIn c u) (x .left) (cited-equal _ u p g), subst (EqualIn c t) (x .right) (cited-equal _ t q f)))
-
-    concludes-holds : (d : Conclusion) (l : Literal) → Concludes c k a steps d l → Holds c (instancesOf c k a) l
-    concludes-holds d (equal p q) w = cited-equal _ _ _ w
-    concludes-holds d (unequal p q) w = shows-apart d _ _ w
+    concludes-holds : (i : ℕ) (d : Conclusion) (l : Literal) → literalAt (k .literals) i ≡ l → Concludes c k a steps (suc i) d l → Holds c (instancesOf c k a) l
+    concludes-holds i d (equal p q) e w = shared-equal (cited-same 0 _ _ _ w)
+    concludes-holds i d (unequal p q) e w =
+        let x : PairAt (c .rows) (differences c) (d .difference) (w .left) (w .right) = w .pair in
+        (x .place, x .inside, subst₂ (EqualAdding c (instanceAt c k a p) (instanceAt c k a q)) (x .left) (x .right) (owned-adding i p q e (cited-same (suc i) _ _ _ (w .cites))))
 
 pub all-hold : (c : Context) (ts : List Term) (ls : List Literal) → Each (length ls) (λ i. Holds c ts (literalAt ls i)) → AllHold c ts ls
 all-hold c ts [] w = tt
@@ -125,7 +160,7 @@ accepted-breach c k a steps ds (accepts assigned follows concluded) =
       inside = rw (length-terms (c .rows)) (r .1);
       holds =
           subst (λ (ts : List Term). AllHold c ts (k .literals)) (instances-take (rangeOf c) a (k .patterns) (r .0))
-          (all-hold c (instancesOf c k a) (k .literals) (λ i h. concludes-holds c k a steps follows (conclusionFor (suc i) ds) (literalAt (k .literals) i) (concluded i h)));
+          (all-hold c (instancesOf c k a) (k .literals) (λ i h. concludes-holds c k a steps follows i (conclusionFor (suc i) ds) (literalAt (k .literals) i) refl (concluded i h)));
     }
   where
     r : (variables (k .patterns) ≤ length a) × Below (length (c .rows)) (take (variables (k .patterns)) a)

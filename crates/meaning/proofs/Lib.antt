@@ -68,3 +68,4 @@ pub mod FollowingClosing
 pub mod FollowingTable
 pub mod FollowingNumbers
 pub mod FollowingControls
+pub mod FollowingNormal

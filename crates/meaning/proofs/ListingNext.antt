@@ -17,11 +17,10 @@ use lib.Dec.{eqb}
 use borrow.Author.Tests.{eqb-true, ltb-true, lt-ltb, eq-eqb, ne-eqb}
 use lib.ListN.{length, take, replicate}
 use lib.Seq.{take-length}
-use Rattle.meaning.specs.Context.{Context, Row, differences}
-use Rattle.meaning.specs.Equality.{Lowest, Representatives}
+use Rattle.meaning.specs.Context.{Context, Row}
+use Rattle.meaning.specs.Equality.{Lowest, Consistent, Representatives}
 use Rattle.meaning.specs.Rules.{Clause, variables, Before, First, Found}
 use Rattle.meaning.specs.Formed.{Formed}
-use Rattle.meaning.specs.ByTable.{apartBy}
 use Rattle.meaning.specs.FirstBy.{breaks, firstBy}
 use Rattle.meaning.specs.Next.{earlier, nextBy}
 use Rattle.meaning.specs.Listing.{OwnRows, OwnBreach, Enumerates, Lists, Goes}
@@ -33,6 +32,7 @@ use Rattle.meaning.proofs.Pruned.{Sought}
 use Rattle.meaning.proofs.Promised.{representatives-closed}
 use Rattle.meaning.proofs.Finds.{LowBreach, low-sought}
 use Rattle.meaning.proofs.Computes.{numbers-right}
+use Rattle.meaning.proofs.FollowingNumbers.{widerBy}
 use Rattle.meaning.proofs.Listing.{enumerates-same, enumerates-split, Nexts, nexts-after, enumerates-goes, goes-enumerates}
 
 -- ---- the order, as a test
@@ -212,14 +212,15 @@ module _ (c : Context) (rep : ℕ → ℕ) (represents : Representatives c rep) 
   own-low k a = (λ w. (w .breaches, own-all a (w .own)), λ w. record { breaches = w .0; own = all-own a (w .1) })
 
 -- and with the numbers outside from any offset that is no row
-module _ (c : Context) (k : Clause) (formed : Formed c k) (rep : ℕ → ℕ) (represents : Representatives c rep) (offset : ℕ) (high : length (c .rows) ≤ offset) where
+module _ (c : Context) (k : Clause) (formed : Formed c k) (free : Consistent c) (rep : ℕ → ℕ) (represents : Representatives c rep) (offset : ℕ)
+    (high : length (c .rows) ≤ offset) where
   abbrev differs : ℕ → ℕ → Bool
-  differs = apartBy rep (differences c)
+  differs = widerBy c
 
   pub own-sought : (a : List ℕ) → OwnBreach c k a ↔ Sought differs (c .rows) rep offset k a
   own-sought a =
       let low : LowBreach c k rep a ↔ Sought differs (c .rows) rep offset k a =
-      low-sought c k rep (representatives-closed c (formed .fit) rep represents) differs offset (numbers-right c k formed rep represents offset high) a in
+      low-sought c k rep (representatives-closed c (formed .fit) rep represents) differs offset (numbers-right c k formed free rep represents offset high) a in
       (λ w. low .0 (own-low c rep represents k a .0 w), λ w. own-low c rep represents k a .1 (low .1 w))
 
   pub every-lists : Lists c k (everyBy differs (c .rows) rep offset k)

@@ -8,17 +8,18 @@ use mathlib.Core.Path.{_≡_, refl, ap, sym, subst}
 use Prim.Native.Nat.{ℕ}
 use native.Mathlib.Omega.{arith}
 use lib.ListN.{length}
-use Rattle.meaning.specs.Context.{Context, differences}
+use Rattle.meaning.specs.Context.{Context}
+use Rattle.meaning.specs.Equality.{Consistent}
 use Rattle.meaning.specs.Rules.{Clause, Found, found, nothing}
 use Rattle.meaning.specs.Text.{narrow, Limits, Refusal, Read, Reading, faulty, taken, read}
-use Rattle.meaning.specs.Replies.{Reply, breach, none, refused, replyOf, Replies}
+use Rattle.meaning.specs.Replies.{Reply, breach, none, refused, replyOf, Replies, RepliesTo}
 use Rattle.meaning.specs.Formed.{Formed}
-use Rattle.meaning.specs.ByTable.{apartBy}
 use Rattle.meaning.specs.Listing.{OwnBreach, Lists, Listing, listed, unlisted, ListingTo, refuses, lists, printedListing, BreachesPrints, long, replies}
 use Rattle.meaning.proofs.Promised.{closing-represents}
 use Rattle.meaning.proofs.Taken.{read-formed}
+use Rattle.meaning.proofs.FollowingNumbers.{widerBy}
 use Rattle.meaning.proofs.Computed.{judge, repOf, replyOn, replyTo}
-use Rattle.meaning.proofs.Answered.{replyTo-replies, replies-one}
+use Rattle.meaning.proofs.Answered.{replyTo-replies, replies-one, judged-consistent}
 use Rattle.meaning.proofs.Listing.{enumerates-one}
 use Rattle.meaning.proofs.ListingNext.{everyBy, every-lists}
 
@@ -53,7 +54,7 @@ listingBy none l = listed l
 listingBy (refused f) l = unlisted f
 
 abbrev pub allOf : Context → Clause → List (List ℕ)
-allOf c k = everyBy (apartBy (repOf c) (differences c)) (c .rows) (repOf c) (length (c .rows)) k
+allOf c k = everyBy (widerBy c) (c .rows) (repOf c) (length (c .rows)) k
 
 unfoldable pub listingOn : Reading → Listing
 listingOn (faulty f) = unlisted f
@@ -62,16 +63,19 @@ listingOn (taken s) = listingBy (judge (s .ledger .context) (s .clause)) (allOf 
 unfoldable pub listingOf : List ℕ → Listing
 listingOf text = listingOn (read narrow text)
 
-every-all : (text : List ℕ) (s : Read) → read narrow text ≡ taken s → Lists (s .ledger .context) (s .clause) (allOf (s .ledger .context) (s .clause))
-every-all text s e =
+every-all : (text : List ℕ) (s : Read) → read narrow text ≡ taken s → (r : Found) → Replies narrow text (replyOf r)
+    → Lists (s .ledger .context) (s .clause) (allOf (s .ledger .context) (s .clause))
+every-all text s e r p =
     let f : Formed (s .ledger .context) (s .clause) = read-formed narrow text s e in
-    every-lists (s .ledger .context) (s .clause) f (repOf (s .ledger .context)) (closing-represents (s .ledger .context) (f .fit)) (length (s .ledger .context .rows)) (omega arith)
+    let free : Consistent (s .ledger .context) =
+    judged-consistent (s .ledger .context) (s .clause) r (subst (λ (x : Reading). RepliesTo x (replyOf r)) e p) in
+    every-lists (s .ledger .context) (s .clause) f free (repOf (s .ledger .context)) (closing-represents (s .ledger .context) (f .fit)) (length (s .ledger .context .rows)) (omega arith)
 
 by-reply : (text : List ℕ) (s : Read) → read narrow text ≡ taken s → (r : Reply) → Replies narrow text r
     → ListingTo narrow text (listingBy r (allOf (s .ledger .context) (s .clause)))
 unfolding listingBy
-by-reply text s e (breach a) p = lists s e (found a) p (allOf (s .ledger .context) (s .clause)) (every-all text s e)
-by-reply text s e none p = lists s e nothing p (allOf (s .ledger .context) (s .clause)) (every-all text s e)
+by-reply text s e (breach a) p = lists s e (found a) p (allOf (s .ledger .context) (s .clause)) (every-all text s e (found a) p)
+by-reply text s e none p = lists s e nothing p (allOf (s .ledger .context) (s .clause)) (every-all text s e nothing p)
 by-reply text s e (refused f) p = refuses f p
 
 pub listing-answers : (text : List ℕ) → ListingTo narrow text (listingOf text)

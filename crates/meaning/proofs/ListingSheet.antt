@@ -15,8 +15,9 @@ use Rattle.meaning.specs.Rules.{variables}
 use Rattle.meaning.specs.Text.{narrow, read, readLines, linesOf, linesFrom, digit, fields, isListed, listedAs, sizeOf, entryOf, rankOf, putContext, put, putClause, firstFailing, isNowhere, nonDigit, legible, known, sized, ranked, room, namedBy, tableOf, noRow, refers, rowsAgree, patternsAgree, agrees, testsOf, firstFault, spotOr, badByte, namesFrom, badField, offsetOf}
 use Rattle.meaning.specs.Writing.{digitOf, hex, frame}
 use Rattle.meaning.specs.Replies.{codeOf, valuesOf, printed, inputLimit}
-use Rattle.meaning.specs.ByTable.{sameList, clashOf, clashFrom, apartBy}
+use Rattle.meaning.specs.ByTable.{sameList, clashOf, clashFrom}
 use Rattle.meaning.specs.Values.{numbers, number, stages, step, numberOf, met, isOver, held, rowsAt, levels, levelsFrom, levelOf, highest}
+use Rattle.meaning.specs.Following.{followsBy}
 use Rattle.meaning.specs.FirstBy.{firstBy, seek, tryAll, orElse, lowest, breaks, allHoldBy, holdsBy}
 use Rattle.meaning.specs.Listing as L
 use Rattle.meaning.specs.Listing.{printedListing, BreachesPrints, replies}
@@ -25,6 +26,7 @@ use Rattle.meaning.proofs.Logic.{false-true, and-true-left, and-true-ri
 use Rattle.meaning.proofs.Lists.{sameList-true, sameList-self}
 use Rattle.meaning.proofs.Progress.{move, total}
 use Rattle.meaning.proofs.Closing.{close, agree, rounds, round, rowsPass, rowPass, statedPass, upto, unite, uniteIf, count}
+use Rattle.meaning.proofs.FollowingNumbers.{widerBy}
 use Rattle.meaning.proofs.Computed.{judge, verdict}
 use Rattle.meaning.proofs.ListingNext.{eachOf, every, everyBy}
 use Rattle.meaning.proofs.ListingPrints.{listingBy, listingOn, listingOf, listing-answers, breaches-one}
@@ -90,7 +92,7 @@ wrongs =
     ∷ []
 
 unfoldable all : (Case → Bool) → List Case → Bool
-unfolding same other bytes printedListing listingOf listingOn listingBy L.linesOf printed codeOf valuesOf frame hex digitOf everyBy every eachOf judge verdict clashOf clashFrom read readLines linesOf linesFrom digit fields isListed listedAs sizeOf entryOf rankOf putContext putClause put firstFailing isNowhere nonDigit legible known sized ranked room namedBy tableOf noRow refers rowsAgree patternsAgree agrees testsOf firstFault spotOr badByte namesFrom badField offsetOf equationsOf differencesOf firstBy seek tryAll orElse lowest breaks allHoldBy holdsBy numbers stages number step numberOf met isOver held rowsAt levels levelsFrom levelOf highest apartBy sameList variables close rounds round rowsPass rowPass statedPass upto uniteIf agree unite count move total
+unfolding same other bytes printedListing listingOf listingOn listingBy L.linesOf printed codeOf valuesOf frame hex digitOf everyBy every eachOf judge verdict clashOf clashFrom read readLines linesOf linesFrom digit fields isListed listedAs sizeOf entryOf rankOf putContext putClause put firstFailing isNowhere nonDigit legible known sized ranked room namedBy tableOf noRow refers rowsAgree patternsAgree agrees testsOf firstFault spotOr badByte namesFrom badField offsetOf equationsOf differencesOf firstBy seek tryAll orElse lowest breaks allHoldBy holdsBy numbers stages number step numberOf met isOver held rowsAt levels levelsFrom levelOf highest widerBy followsBy sameList variables close rounds round rowsPass rowPass statedPass upto uniteIf agree unite count move total
 all test [] = true
 all test (e ∷ es) = test e && all test es
 

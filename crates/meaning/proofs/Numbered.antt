@@ -5,8 +5,7 @@
 --     Numbered, numbered-stages        the invariant; it stands after each stage
 --     equal-stage, row-stage           equal instances, and an instance equal to a context row, among the rows up to level k
 --     equal-numbers, equal-row         the same for all rows
---     apart-numbers                    instances that are kept apart
---     holds-numbers, all-hold-numbers  a literal, and all of a list, by any test that is right for instances kept apart
+--     holds-numbers, all-hold-numbers  a literal, and all of a list, by any test that is right of instances that differ
 -- Assumes nothing.
 use mathlib.Core.Bool.{Bool, true, false}
 use mathlib.Core.List.{List, [], _∷_, _++_, map}
@@ -17,17 +16,15 @@ use native.Mathlib.Omega.{arith}
 use borrow.Author.Tests.{eqb-true, eq-eqb}
 use lib.ListN.{length, getD, length-set, length-replicate}
 use lib.Seq.{getD-set-same, getD-set-other}
-use Rattle.meaning.specs.Context.{Term, Row, rowAt, term₀, pick, terms, termAt, Context, equations, differences, leftAt, rightAt}
+use Rattle.meaning.specs.Context.{Term, Row, rowAt, term₀, pick, terms, termAt, Context, equations}
 use Rattle.meaning.specs.Equality.{Equal}
 use Rattle.meaning.specs.Rules.{Pattern, variable, apply, variables, Literal, equal, unequal, instance, instances, Differ, Holds, AllHold, choice, Below}
 use Rattle.meaning.specs.Formed.{Ordered, Within, AllPlaced, Names, NamesAll}
-use Rattle.meaning.specs.ByTable.{apartBy}
 use Rattle.meaning.specs.FirstBy.{holdsBy, allHoldBy}
 use Rattle.meaning.specs.Values.{levels, rowsAt, patternAt, numberAt, argsOf, Numbering, isOver, met, numberOf, step, number, unread, stages, numbers}
 use Rattle.meaning.proofs.Logic.{and-true-left, and-true-right, and-both, false-true}
 use Rattle.meaning.proofs.Model.{Closed, Val, Vals, atRow, app, settle, eval, evals}
 use Rattle.meaning.proofs.Meaning.{answer, Answer, meaning, eval-row}
-use Rattle.meaning.proofs.Apartness.{Meets, apartBy-true}
 use Rattle.meaning.proofs.Box.{Mem}
 use Rattle.meaning.proofs.Prefix.{levels-most}
 use Rattle.meaning.proofs.Levels.{mem-front, mem-back, mem-cases, levelAt, instance-at, Ready, ready-more, Orderly, level-orderly, none-read, stages-read}
@@ -343,35 +340,6 @@ module _ (c : Context) (rep : ℕ → ℕ) (ordered : Ordered (c .rows)) (within
 
   abbrev nums : List ℕ
   nums = numbers (c .rows) rep offset ps given
-
-  rowIn : (p r : ℕ) → p < length ps → r < length (c .rows) → Equal (c .rows) (equations c) (instIn p) (termAt (c .rows) r) ↔ (numberAt nums p ≡ rep r)
-  rowIn = equal-row (c .rows) (equations c) rep ordered within closed offset fits ps placed given chosen means
-
-  -- two instances are kept apart just where their numbers are the representatives of a stated difference
-  pub apart-numbers : Within (length (c .rows)) (differences c) → (p q : ℕ) → p < length ps → q < length ps
-      → Differ c (instIn p) (instIn q) ↔ (apartBy rep (differences c) (numberAt nums p) (numberAt nums q) ≡ true)
-  apart-numbers inside p q hp hq = (
-    λ a. apartBy-true rep (differences c) (numberAt nums p) (numberAt nums q) .1 (to a),
-    λ e. back (apartBy-true rep (differences c) (numberAt nums p) (numberAt nums q) .0 e),
-  )
-    where
-      to : Differ c (instIn p) (instIn q) → (k : ℕ) × (k < length (differences c)) × Meets rep (numberAt nums p) (numberAt nums q) (getD (differences c) k (0, 0))
-      to a =
-          let left : leftAt (differences c) (a .0) < length (c .rows) = inside (a .0) (a .1) .0 in
-          let right : rightAt (differences c) (a .0) < length (c .rows) = inside (a .0) (a .1) .1 in (
-            a .0,
-            a .1,
-            ⊎-elim (λ w. inl (rowIn p _ hp left .0 (w .0), rowIn q _ hq right .0 (w .1))) (λ w. inr (rowIn q _ hq left .0 (w .0), rowIn p _ hp right .0 (w .1))) (a .2),
-          )
-
-      back : ((k : ℕ) × (k < length (differences c)) × Meets rep (numberAt nums p) (numberAt nums q) (getD (differences c) k (0, 0))) → Differ c (instIn p) (instIn q)
-      back a =
-          let left : leftAt (differences c) (a .0) < length (c .rows) = inside (a .0) (a .1) .0 in
-          let right : rightAt (differences c) (a .0) < length (c .rows) = inside (a .0) (a .1) .1 in (
-            a .0,
-            a .1,
-            ⊎-elim (λ w. inl (rowIn p _ hp left .1 (w .0), rowIn q _ hq right .1 (w .1))) (λ w. inr (rowIn q _ hq left .1 (w .0), rowIn p _ hp right .1 (w .1))) (a .2),
-          )
 
   module _ (differs : ℕ → ℕ → Bool)
       (promise : (p q : ℕ) → p < length ps → q < length ps → Differ c (instIn p) (instIn q) ↔ (differs (numberAt nums p) (numberAt nums q) ≡ true)) where

@@ -13,8 +13,9 @@ use Rattle.meaning.specs.Rules.{variables}
 use Rattle.meaning.specs.Text.{Reading, faulty, taken, rowsOf, read, narrow, readLines, linesOf, linesFrom, digit, fields, isListed, listedAs, sizeOf, entryOf, rankOf, putContext, put, putClause, firstFailing, isNowhere, nonDigit, legible, known, sized, ranked, room, namedBy, tableOf, noRow, refers, rowsAgree, patternsAgree, agrees, testsOf, firstFault, spotOr, badByte, namesFrom, badField, offsetOf}
 use Rattle.meaning.specs.Replies.{Reply, breach, none, refused, Replies}
 use Rattle.meaning.specs.Formed.{Fit}
-use Rattle.meaning.specs.ByTable.{sameList, clashOf, clashFrom, apartBy}
+use Rattle.meaning.specs.ByTable.{sameList, clashOf, clashFrom}
 use Rattle.meaning.specs.Values.{numbers, number, stages, step, numberOf, met, isOver, held, rowsAt, levels, levelsFrom, levelOf, highest}
+use Rattle.meaning.specs.Following.{followsBy}
 use Rattle.meaning.specs.FirstBy.{firstBy, seek, tryAll, orElse, lowest, breaks, allHoldBy, holdsBy}
 use Rattle.meaning.specs.Sheet.{Example, gets, bytes, represents, equates, Shown, AllShown, sheet, further, fault, bytesNamed}
 use Rattle.meaning.proofs.Logic.{and-true-left, and-true-right}
@@ -23,6 +24,7 @@ use Rattle.meaning.proofs.Progress.{move, total}
 use Rattle.meaning.proofs.Closing.{close, agree, rounds, round, rowsPass, rowPass, statedPass, upto, unite, uniteIf, count}
 use Rattle.meaning.proofs.Promised.{model-rows, closing-promise, closing-represents}
 use Rattle.meaning.proofs.Taken.{read-formed}
+use Rattle.meaning.proofs.FollowingNumbers.{widerBy}
 use Rattle.meaning.proofs.Computed.{repOf, replyTo, replyOn, judge, verdict}
 use Rattle.meaning.proofs.Answered.{replyTo-replies}
 
@@ -71,7 +73,7 @@ test (represents text l) = represented l (read narrow (bytes text))
 test (equates text i j) = equated i j (read narrow (bytes text))
 
 unfoldable tests : List Example → Bool
-unfolding sameReply represented equated test bytes replyTo replyOn judge verdict clashOf clashFrom read readLines linesOf linesFrom digit fields isListed listedAs sizeOf entryOf rankOf putContext putClause put firstFailing isNowhere nonDigit legible known sized ranked room namedBy tableOf noRow refers rowsAgree patternsAgree agrees testsOf firstFault spotOr badByte namesFrom badField offsetOf equationsOf differencesOf firstBy seek tryAll orElse lowest breaks allHoldBy holdsBy numbers stages number step numberOf met isOver held rowsAt levels levelsFrom levelOf highest apartBy sameList variables close rounds round rowsPass rowPass statedPass upto uniteIf agree unite count move total
+unfolding sameReply represented equated test bytes replyTo replyOn judge verdict clashOf clashFrom read readLines linesOf linesFrom digit fields isListed listedAs sizeOf entryOf rankOf putContext putClause put firstFailing isNowhere nonDigit legible known sized ranked room namedBy tableOf noRow refers rowsAgree patternsAgree agrees testsOf firstFault spotOr badByte namesFrom badField offsetOf equationsOf differencesOf firstBy seek tryAll orElse lowest breaks allHoldBy holdsBy numbers stages number step numberOf met isOver held rowsAt levels levelsFrom levelOf highest widerBy followsBy sameList variables close rounds round rowsPass rowPass statedPass upto uniteIf agree unite count move total
 tests [] = true
 tests (e ∷ es) = test e && tests es
 

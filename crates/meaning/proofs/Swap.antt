@@ -1,20 +1,19 @@
 -- In a breach each place of the range may give way to a lower one with an equal term.
 --     Alike, instances-alike     lists of terms that are equal place by place; the instances under two such choices
---     differ-alike               what an unequal literal asks respects equality
---     all-hold-alike             so does what all literals ask
+--     all-hold-alike             what all literals ask respects equality
 --     Lower                      a place for each place of a range, no higher, with an equal term
 --     breach-low, low-upto       a breach moved to such places is a breach, and no later
 -- Assumes nothing.
 use mathlib.Core.List.{List, [], _∷_, _++_, map}
 use mathlib.Core.Path.{_∙_}
-use mathlib.Core.Logic.{inl, inr, ⊎-elim}
 use Prim.Native.Nat.{ℕ, zero, suc, _≤_, _<_}
 use native.Mathlib.Omega.{arith}
 use lib.ListN.{length, getD, length-map}
 use Rattle.meaning.specs.Context.{Context, Term, equations, term₀, pick, node}
 use Rattle.meaning.specs.Equality.{Equal, reflexive, Sames, Stated, same-stop, same-more, congruent, transitive, symmetric}
-use Rattle.meaning.specs.Rules.{fill, Differ, Pattern, instance, variable, apply, instances, Literal, Holds, equal, unequal, AllHold, Clause, Below, choice, Breach}
+use Rattle.meaning.specs.Rules.{fill, Pattern, instance, variable, apply, instances, Literal, Holds, equal, unequal, AllHold, Clause, Below, choice, Breach}
 use Rattle.meaning.proofs.Order.{Upto, upto-map}
+use Rattle.meaning.proofs.Following.{wider-respects}
 
 module _ (c : Context) where
   abbrev Eq : Term → Term → Type 0
@@ -50,18 +49,9 @@ module _ (c : Context) where
     unfolding instances
     instances-alike ps = fill-alike [] [] alike-stop ps
 
-  pub differ-alike : {s t u v : Term} → Eq s u → Eq t v → Differ c s t → Differ c u v
-  differ-alike e f h = (
-    h .0,
-    h .1,
-    ⊎-elim (λ w. inl (transitive (symmetric e) (w .0), transitive (symmetric f) (w .1)))
-        (λ w. inr (transitive (symmetric f) (w .0), transitive (symmetric e) (w .1)))
-        (h .2),
-  )
-
   holds-alike : {ts us : List Term} → Alike ts us → (l : Literal) → Holds c ts l → Holds c us l
   holds-alike a (equal p q) h = transitive (symmetric (alike-at a p)) (transitive h (alike-at a q))
-  holds-alike a (unequal p q) h = differ-alike (alike-at a p) (alike-at a q) h
+  holds-alike a (unequal p q) h = wider-respects c _ _ _ _ (alike-at a p) (alike-at a q) h
 
   pub all-hold-alike : {ts us : List Term} → Alike ts us → (ls : List Literal) → AllHold c ts ls → AllHold c us ls
   all-hold-alike a [] h = tt

@@ -8,20 +8,20 @@ use mathlib.Core.List.{List, [], _∷_}
 use mathlib.Core.Path.{_≡_, refl, sym, subst}
 use Prim.Native.Nat.{ℕ, zero, suc, _+_, _-_, _≤_, _<_}
 use native.Mathlib.Omega.{arith}
-use lib.Dec.{eqb, ltb}
-use borrow.Author.Tests.{eqb-true, eq-eqb, ne-eqb, ltb-true, ltb-false, lt-ltb}
+use lib.Dec.{ltb}
+use borrow.Author.Tests.{ltb-true, ltb-false, lt-ltb}
 use lib.ListN.{length, getD}
 use lib.Seq.{take-length}
 use Rattle.meaning.specs.Context.{Term, Row, termAt, Context, equations, differences, leftAt, rightAt}
 use Rattle.meaning.specs.Rules.{variables, Literal, equal, unequal, Clause}
-use Rattle.meaning.specs.Formed.{Formed, Names, NamesAll}
+use Rattle.meaning.specs.Formed.{Formed, Names}
 use Rattle.meaning.specs.Values.{numberAt}
-use Rattle.meaning.specs.Grounds.{Step, Conclusion, PairAt, Cites, ShowsApart, straight, crosswise, Concludes, Each, FirstNot, conclusionFor, literalAt, Assigned, FollowsAt, ConcludedAt, Verdict, accepted, unassigned, bad, unconcluded, Verified, accepts, unassigns, refuses, leaves-open}
-use Rattle.meaning.specs.Checking.{entries, keysOf, numbered, numbersOf, Faithful, counts, oriented, citedBy, followsBy, apartBySteps, concludesBy, concludedBy, firstFalse, Ends, assignedBy, choose, verdictBy}
+use Rattle.meaning.specs.Grounds.{Step, Conclusion, PairAt, Cites, ShowsDiffer, Concludes, Each, FirstNot, conclusionFor, literalAt, Assigned, FollowsAt, ConcludedAt, Verdict, accepted, unassigned, bad, unconcluded, Verified, accepts, unassigns, refuses, leaves-open}
+use Rattle.meaning.specs.Checking.{entries, keysOf, numbered, numbersOf, Faithful, counts, citedBy, followsBy, differsBySteps, concludesBy, concludedBy, firstFalse, Ends, assignedBy, choose, verdictBy}
 use Rattle.meaning.proofs.Logic.{and-true-left, and-true-right, and-both, false-true}
 use Rattle.meaning.proofs.Entries.{length-entries, entries-ordered}
 use Rattle.meaning.proofs.Faithful.{numbersOf-faithful}
-use Rattle.meaning.proofs.Cited.{counts-true, length-numbered, Ready, n, m, es, Is, instance-is, cited-cites, cites-cited, pair-left, pair-right, pair-counted}
+use Rattle.meaning.proofs.Cited.{counts-true, length-numbered, named-at, Ready, n, m, es, Is, instance-is, cited-cites, cites-cited, pair-left, pair-right, pair-counted}
 use Rattle.meaning.proofs.Checks.{true-follows, follows-true}
 
 module _ (c : Context) (k : Clause) (a : List ℕ) (ns : List ℕ) (ready : Ready c k a ns) (steps : List Step) where
@@ -37,39 +37,33 @@ module _ (c : Context) (k : Clause) (a : List ℕ) (ns : List ℕ) (ready : Read
   abbrev Number : ℕ → Term → Type 0
   Number x t = Is c k a ns ready x t
 
-  abbrev cited : ℕ → ℕ → ℕ → Bool
-  cited x l r = citedBy ns rows patterns steps (length steps) x l r
+  abbrev cited : ℕ → ℕ → ℕ → ℕ → Bool
+  cited o x l r = citedBy ns rows patterns steps (length steps) o x l r
 
-  true-cites : (x l r : ℕ) (t u : Term) → Number l t → Number r u → cited x l r ≡ true → Cites c k a steps x t u
-  true-cites x l r t u p q e =
-      subst (λ (z : List Step). Cites c k a z x t u) (take-length steps) (cited-cites c k a ns ready steps (length steps) x l r t u (omega arith) p q e)
+  true-cites : (o x l r : ℕ) (t u : Term) → Number l t → Number r u → cited o x l r ≡ true → Cites c k a steps o x t u
+  true-cites o x l r t u p q e =
+      subst (λ (z : List Step). Cites c k a z o x t u) (take-length steps) (cited-cites c k a ns ready steps (length steps) o x l r t u (omega arith) p q e)
 
-  cites-true : (x l r : ℕ) (t u : Term) → Number l t → Number r u → Cites c k a steps x t u → cited x l r ≡ true
-  cites-true x l r t u p q w =
-      cites-cited c k a ns ready steps (length steps) x l r t u p q (subst (λ (z : List Step). Cites c k a z x t u) (sym (take-length steps)) w)
+  cites-true : (o x l r : ℕ) (t u : Term) → Number l t → Number r u → Cites c k a steps o x t u → cited o x l r ≡ true
+  cites-true o x l r t u p q w =
+      cites-cited c k a ns ready steps (length steps) o x l r t u p q (subst (λ (z : List Step). Cites c k a z o x t u) (sym (take-length steps)) w)
 
-  module _ (d : Conclusion) (l r : ℕ) (t u : Term) (lt : Number l t) (ru : Number r u) where
+  module _ (o : ℕ) (d : Conclusion) where
     abbrev p : ℕ
     p = leftAt diffs (d .difference - 1)
 
     abbrev q : ℕ
     q = rightAt diffs (d .difference - 1)
 
-    abbrev straightBy : Bool
-    straightBy = cited (d .first) l p && cited (d .second) r q
-
-    abbrev crosswiseBy : Bool
-    crosswiseBy = cited (d .first) l q && cited (d .second) r p
-
-    abbrev orientedBy : Bool
-    orientedBy = oriented (d .orientation) straightBy crosswiseBy
-
-    true-apart : apartBySteps ns rows patterns diffs steps d l r ≡ true → ShowsApart c k a steps d t u
-    unfolding apartBySteps oriented
-    true-apart e = go (eqb (d .orientation) 0) (eqb (d .orientation) 1) refl refl
+    true-differs : differsBySteps ns rows patterns diffs steps o d ≡ true → ShowsDiffer c k a steps o d
+    unfolding differsBySteps
+    true-differs e = record { left = x; right = y; pair = pair; cites = true-cites o (d .first) p q x y pn qn (and-true-right there (cited o (d .first) p q) e) }
       where
+        there : Bool
+        there = counts (length diffs) (d .difference)
+
         b : (0 < d .difference) × (d .difference ≤ length diffs)
-        b = counts-true (length diffs) (d .difference) (and-true-left (counts (length diffs) (d .difference)) orientedBy e)
+        b = counts-true (length diffs) (d .difference) (and-true-left there (cited o (d .first) p q) e)
 
         x : Term
         x = termAt (c .rows) (leftAt (differences c) (d .difference - 1))
@@ -87,56 +81,34 @@ module _ (c : Context) (k : Clause) (a : List ℕ) (ns : List ℕ) (ready : Read
               right = refl;
             }
 
-        f : orientedBy ≡ true
-        f = and-true-right (counts (length diffs) (d .difference)) orientedBy e
-
         pn : Number p x
         pn = pair-left c k a ns ready (differences c) (ready .formed .fit .apart) (d .difference) x y pair
 
         qn : Number q y
         qn = pair-right c k a ns ready (differences c) (ready .formed .fit .apart) (d .difference) x y pair
 
-        go : (v w : Bool) → eqb (d .orientation) 0 ≡ v → eqb (d .orientation) 1 ≡ w → ShowsApart c k a steps d t u
-        go true w g h =
-            let z : straightBy ≡ true = rw (g, oriented) at f in
-            straight (eqb-true (d .orientation) 0 g) x y pair
-            (true-cites (d .first) l p t x lt pn (and-true-left (cited (d .first) l p) (cited (d .second) r q) z))
-            (true-cites (d .second) r q u y ru qn (and-true-right (cited (d .first) l p) (cited (d .second) r q) z))
-        go false true g h =
-            let z : crosswiseBy ≡ true = rw (g, oriented, h) at f in
-            crosswise (eqb-true (d .orientation) 1 h) x y pair
-            (true-cites (d .first) l q t y lt qn (and-true-left (cited (d .first) l q) (cited (d .second) r p) z))
-            (true-cites (d .second) r p u x ru pn (and-true-right (cited (d .first) l q) (cited (d .second) r p) z))
-        go false false g h = absurd (let o : false ≡ true = rw (g, oriented, h) at f in let z : _≡_ {A = ℕ} 0 1 = cc in omega arith)
+    differs-true : ShowsDiffer c k a steps o d → differsBySteps ns rows patterns diffs steps o d ≡ true
+    unfolding differsBySteps
+    differs-true w =
+        let pn : Number p (w .left) = pair-left c k a ns ready (differences c) (ready .formed .fit .apart) (d .difference) (w .left) (w .right) (w .pair) in
+        let qn : Number q (w .right) = pair-right c k a ns ready (differences c) (ready .formed .fit .apart) (d .difference) (w .left) (w .right) (w .pair) in
+        and-both (counts (length diffs) (d .difference)) (cited o (d .first) p q)
+        (pair-counted c k a ns ready (differences c) (d .difference) (w .left) (w .right) (w .pair))
+        (cites-true o (d .first) p q (w .left) (w .right) pn qn (w .cites))
 
-    apart-true : ShowsApart c k a steps d t u → apartBySteps ns rows patterns diffs steps d l r ≡ true
-    unfolding apartBySteps oriented
-    apart-true (straight o x y w f g) =
-        let pn : Number p x = pair-left c k a ns ready (differences c) (ready .formed .fit .apart) (d .difference) x y w in
-        let qn : Number q y = pair-right c k a ns ready (differences c) (ready .formed .fit .apart) (d .difference) x y w in
-        and-both (counts (length diffs) (d .difference)) orientedBy (pair-counted c k a ns ready (differences c) (d .difference) x y w)
-        (rw (eq-eqb (d .orientation) 0 o, oriented)
-        (and-both (cited (d .first) l p) (cited (d .second) r q) (cites-true (d .first) l p t x lt pn f) (cites-true (d .second) r q u y ru qn g)))
-    apart-true (crosswise o x y w f g) =
-        let pn : Number p x = pair-left c k a ns ready (differences c) (ready .formed .fit .apart) (d .difference) x y w in
-        let qn : Number q y = pair-right c k a ns ready (differences c) (ready .formed .fit .apart) (d .difference) x y w in
-        and-both (counts (length diffs) (d .difference)) orientedBy (pair-counted c k a ns ready (differences c) (d .difference) x y w)
-        (rw (ne-eqb (d .orientation) 0 (λ z. omega (arith, o, z)), oriented, eq-eqb (d .orientation) 1 o)
-        (and-both (cited (d .first) l q) (cited (d .second) r p) (cites-true (d .first) l q t y lt qn f) (cites-true (d .second) r p u x ru pn g)))
-
-  pub true-concludes : (d : Conclusion) (x : Literal) → Names patterns x → concludesBy ns rows patterns diffs steps d x ≡ true
-      → Concludes c k a steps d x
+  pub true-concludes : (o : ℕ) (d : Conclusion) (x : Literal) → Names patterns x → concludesBy ns rows patterns diffs steps o d x ≡ true
+      → Concludes c k a steps o d x
   unfolding concludesBy
-  true-concludes d (equal p q) w e =
-      true-cites (d .first) (numberAt ns (rows + p)) (numberAt ns (rows + q)) _ _ (instance-is c k a ns ready p (w .0)) (instance-is c k a ns ready q (w .1)) e
-  true-concludes d (unequal p q) w e = true-apart d _ _ _ _ (instance-is c k a ns ready p (w .0)) (instance-is c k a ns ready q (w .1)) e
+  true-concludes o d (equal p q) w e =
+      true-cites 0 (d .first) (numberAt ns (rows + p)) (numberAt ns (rows + q)) _ _ (instance-is c k a ns ready p (w .0)) (instance-is c k a ns ready q (w .1)) e
+  true-concludes o d (unequal p q) w e = true-differs o d e
 
-  pub concludes-true : (d : Conclusion) (x : Literal) → Names patterns x → Concludes c k a steps d x
-      → concludesBy ns rows patterns diffs steps d x ≡ true
+  pub concludes-true : (o : ℕ) (d : Conclusion) (x : Literal) → Names patterns x → Concludes c k a steps o d x
+      → concludesBy ns rows patterns diffs steps o d x ≡ true
   unfolding concludesBy
-  concludes-true d (equal p q) w e =
-      cites-true (d .first) (numberAt ns (rows + p)) (numberAt ns (rows + q)) _ _ (instance-is c k a ns ready p (w .0)) (instance-is c k a ns ready q (w .1)) e
-  concludes-true d (unequal p q) w e = apart-true d _ _ _ _ (instance-is c k a ns ready p (w .0)) (instance-is c k a ns ready q (w .1)) e
+  concludes-true o d (equal p q) w e =
+      cites-true 0 (d .first) (numberAt ns (rows + p)) (numberAt ns (rows + q)) _ _ (instance-is c k a ns ready p (w .0)) (instance-is c k a ns ready q (w .1)) e
+  concludes-true o d (unequal p q) w e = differs-true o d e
 
 -- ---- the first that is not so
 
@@ -180,11 +152,6 @@ true-assigned : (rows : List Row) (a : List ℕ) (v : ℕ) → (v < length a) ×
 unfolding assignedBy
 true-assigned rows a v w = and-both (ltb v (length a)) _ (lt-ltb v (length a) (w .0)) (lt-ltb (getD a v 0) (length rows) (w .1))
 
-pub named-at : (size : ℕ) (ls : List Literal) → NamesAll size ls → (i : ℕ) → i < length ls → Names size (literalAt ls i)
-named-at size [] w i h = absurd (omega arith)
-named-at size (l ∷ ls) w zero h = w .0
-named-at size (l ∷ ls) w (suc i) h = named-at size ls (w .1) i (omega arith)
-
 module _ (c : Context) (k : Clause) (a : List ℕ) (steps : List Step) (ds : List Conclusion) where
   abbrev vs : ℕ
   vs = variables (k .patterns)
@@ -200,7 +167,7 @@ module _ (c : Context) (k : Clause) (a : List ℕ) (steps : List Step) (ds : Lis
 
   module _ (ns : List ℕ) (ready : Ready c k a ns) where
     abbrev stepTest : ℕ → Bool
-    stepTest i = followsBy ns (n c k a ns ready) (m c k a ns ready) (keysOf ns (es c k a ns ready)) (numbered ns (equations c)) steps i
+    stepTest i = followsBy ns (n c k a ns ready) (m c k a ns ready) (keysOf ns (es c k a ns ready)) (numbered ns (equations c)) (k .literals) steps i
 
     abbrev literalTest : ℕ → Bool
     literalTest j = concludedBy ns (n c k a ns ready) (m c k a ns ready) (numbered ns (differences c)) (k .literals) steps ds j
@@ -217,12 +184,12 @@ module _ (c : Context) (k : Clause) (a : List ℕ) (steps : List Step) (ds : Lis
     literal-there : (x : ℕ) → x < length (k .literals) → literalTest x ≡ true → ConcludedAt c k a steps ds x
     unfolding concludedBy
     literal-there x l e =
-        true-concludes c k a ns ready steps (conclusionFor (suc x) ds) (literalAt (k .literals) x) (named-at (length (k .patterns)) (k .literals) (ready .formed .named) x l) e
+        true-concludes c k a ns ready steps (suc x) (conclusionFor (suc x) ds) (literalAt (k .literals) x) (named-at (length (k .patterns)) (k .literals) (ready .formed .named) x l) e
 
     literal-back : (x : ℕ) → x < length (k .literals) → ConcludedAt c k a steps ds x → literalTest x ≡ true
     unfolding concludedBy
     literal-back x l e =
-        concludes-true c k a ns ready steps (conclusionFor (suc x) ds) (literalAt (k .literals) x) (named-at (length (k .patterns)) (k .literals) (ready .formed .named) x l) e
+        concludes-true c k a ns ready steps (suc x) (conclusionFor (suc x) ds) (literalAt (k .literals) x) (named-at (length (k .patterns)) (k .literals) (ready .formed .named) x l) e
 
     pub verdict-unconcluded : (i j : ℕ) → Ends stepTest (length steps) i → length steps ≤ i → Ends literalTest (length (k .literals)) j → j < length (k .literals)
         → Verified c k a steps ds (unconcluded (suc j))
@@ -265,7 +232,7 @@ module _ (c : Context) (k : Clause) (a : List ℕ) (steps : List Step) (ds : Lis
       steps-at : ℕ
       steps-at =
           firstFalse
-          (followsBy computed (length (c .rows)) (length (k .patterns)) (keysOf computed (entries (c .rows) a (k .patterns))) (numbered computed (equations c)) steps)
+          (followsBy computed (length (c .rows)) (length (k .patterns)) (keysOf computed (entries (c .rows) a (k .patterns))) (numbered computed (equations c)) (k .literals) steps)
           0
           (length steps)
 

@@ -4,12 +4,13 @@
 --     numbersOf            an entry's number is that of the first earlier entry that is like it, else its own place
 --     Faithful             numbers that tell terms apart
 --     sideOf               the number of what a reference stands for
---     citedBy, followsBy   whether a step has two numbers for sides; whether a step follows from those before it
+--     ownerBy              whether an owner is shared or an unequal literal
+--     citedBy, followsBy   whether a step that an owner may use has two numbers for sides; whether a step follows from those before it
 --     concludesBy          whether a conclusion shows a literal
 --     Ends                 where a test first fails
 --     verdictBy            the verdict on steps and conclusions
 -- Assumes nothing.
-use mathlib.Core.Bool.{Bool, true, false, _&&_}
+use mathlib.Core.Bool.{Bool, true, false, _&&_, _||_}
 use mathlib.Core.List.{List, [], _∷_, _++_, map}
 use mathlib.Core.Path.{_≡_}
 use Prim.Native.Nat.{ℕ, zero, suc, _+_, _-_, _≤_, _<_}
@@ -77,9 +78,13 @@ counts limit x = ltb 0 x && leb x limit
 unfoldable pub pairedBy : List (ℕ × ℕ) → ℕ → ℕ → ℕ → Bool
 pairedBy pairs x l r = counts (length pairs) x && (eqb (leftAt pairs (x - 1)) l && eqb (rightAt pairs (x - 1)) r)
 
--- the first in orientation 0, the second in orientation 1
-unfoldable pub oriented : ℕ → Bool → Bool → Bool
-oriented o x y = elim (eqb o 0) [ true ↦ x | false ↦ elim (eqb o 1) [ true ↦ y | false ↦ false ] ]
+unfoldable pub isUnequal : Literal → Bool
+isUnequal (equal p q) = false
+isUnequal (unequal p q) = true
+
+-- o is 0, or the number of an unequal literal, counted from 1
+unfoldable pub ownerBy : List Literal → ℕ → Bool
+ownerBy ls o = eqb o 0 || (counts (length ls) o && isUnequal (literalAt ls (o - 1)))
 
 -- a row below a limit; past it a number that is no entry's
 unfoldable pub numberBelow : List ℕ → ℕ → ℕ → ℕ → ℕ → ℕ
@@ -99,38 +104,55 @@ module _ (ns : List ℕ) (n m : ℕ) where
   unfoldable pub sidesBy : Ref → Ref → ℕ → ℕ → Bool
   sidesBy left right l r = eqb (sideOf left) l && eqb (sideOf right) r
 
-  unfoldable pub citedBy : List Step → ℕ → ℕ → ℕ → ℕ → Bool
-  citedBy steps limit x l r = counts limit x && sidesBy (stepAt steps (x - 1) .left) (stepAt steps (x - 1) .right) l r
+  -- a step that owner o may use has the sides l and r
+  unfoldable pub usedBy : ℕ → Step → ℕ → ℕ → Bool
+  usedBy o s l r = (eqb (s .owner) 0 || eqb (s .owner) o) && sidesBy (s .left) (s .right) l r
+
+  unfoldable pub citedBy : List Step → ℕ → ℕ → ℕ → ℕ → ℕ → Bool
+  citedBy steps limit o x l r = counts limit x && usedBy o (stepAt steps (x - 1)) l r
 
   -- two steps that meet in a term that is there
-  unfoldable pub metBy : List Step → ℕ → ℕ → ℕ → ℕ → ℕ → Bool
-  metBy steps limit x y l r =
-      let middle : ℕ = sideOf (stepAt steps (x - 1) .right) in citedBy steps limit x l middle && (ltb middle (n + m) && citedBy steps limit y middle r)
+  unfoldable pub metBy : List Step → ℕ → ℕ → ℕ → ℕ → ℕ → ℕ → Bool
+  metBy steps limit o x y l r =
+      let middle : ℕ = sideOf (stepAt steps (x - 1) .right) in
+      citedBy steps limit o x l middle && (ltb middle (n + m) && citedBy steps limit o y middle r)
 
   -- a step for each two arguments, by the numbers from place i on
-  unfoldable pub eachBy : List Step → ℕ → List ℕ → ℕ → List ℕ → List ℕ → Bool
-  eachBy steps limit xs i [] [] = true
-  eachBy steps limit xs i [] (r ∷ rs) = false
-  eachBy steps limit xs i (l ∷ ls) [] = false
-  eachBy steps limit xs i (l ∷ ls) (r ∷ rs) = citedBy steps limit (getD xs i 0) l r && eachBy steps limit xs (suc i) ls rs
+  unfoldable pub eachBy : List Step → ℕ → ℕ → List ℕ → ℕ → List ℕ → List ℕ → Bool
+  eachBy steps limit o xs i [] [] = true
+  eachBy steps limit o xs i [] (r ∷ rs) = false
+  eachBy steps limit o xs i (l ∷ ls) [] = false
+  eachBy steps limit o xs i (l ∷ ls) (r ∷ rs) = citedBy steps limit o (getD xs i 0) l r && eachBy steps limit o xs (suc i) ls rs
 
   -- two keys with one symbol, and a step for each two arguments
-  unfoldable pub congruentBy : List Step → ℕ → List ℕ → Row → Row → Bool
-  congruentBy steps limit xs p q = eqb (p .symbol) (q .symbol) && eachBy steps limit xs 0 (p .args) (q .args)
+  unfoldable pub congruentBy : List Step → ℕ → ℕ → List ℕ → Row → Row → Bool
+  congruentBy steps limit o xs p q = eqb (p .symbol) (q .symbol) && eachBy steps limit o xs 0 (p .args) (q .args)
 
-  -- by the keys of all entries, and the numbers of the stated equations
-  module _ (ks : List Row) (eqs : List (ℕ × ℕ)) where
-    unfoldable pub derivesBy : List Step → ℕ → ℕ → List ℕ → ℕ → ℕ → Bool
-    derivesBy steps limit kind xs l r =
+  -- an unequal literal's instances are l and r
+  unfoldable pub addsBy : Literal → ℕ → ℕ → Bool
+  addsBy (equal p q) l r = false
+  addsBy (unequal p q) l r = eqb (numberAt ns (n + p)) l && eqb (numberAt ns (n + q)) r
+
+  -- literal o, counted from 1, is unequal, and its instances are l and r
+  unfoldable pub addedBy : List Literal → ℕ → ℕ → ℕ → Bool
+  addedBy ls o l r = counts (length ls) o && addsBy (literalAt ls (o - 1)) l r
+
+  -- by the keys of all entries, the numbers of the stated equations, and the literals
+  module _ (ks : List Row) (eqs : List (ℕ × ℕ)) (ls : List Literal) where
+    unfoldable pub derivesBy : List Step → ℕ → ℕ → ℕ → List ℕ → ℕ → ℕ → Bool
+    derivesBy steps limit o kind xs l r =
         elim (eqb kind 1) [
           | true ↦ pairedBy eqs (getD xs 0 0) l r
           | false ↦ elim (eqb kind 2) [
             | true ↦ eqb l r
             | false ↦ elim (eqb kind 3) [
-              | true ↦ citedBy steps limit (getD xs 0 0) r l
+              | true ↦ citedBy steps limit o (getD xs 0 0) r l
               | false ↦ elim (eqb kind 4) [
-                | true ↦ metBy steps limit (getD xs 0 0) (getD xs 1 0) l r
-                | false ↦ elim (eqb kind 5) [ true ↦ congruentBy steps limit xs (rowAt ks l) (rowAt ks r) | false ↦ false ]
+                | true ↦ metBy steps limit o (getD xs 0 0) (getD xs 1 0) l r
+                | false ↦ elim (eqb kind 5) [
+                  | true ↦ congruentBy steps limit o xs (rowAt ks l) (rowAt ks r)
+                  | false ↦ elim (eqb kind 6) [ true ↦ addedBy ls o l r | false ↦ false ]
+                ]
               ]
             ]
           ]
@@ -141,25 +163,24 @@ module _ (ns : List ℕ) (n m : ℕ) where
         let s : Step = stepAt steps i in
         let l : ℕ = sideOf (s .left) in
         let r : ℕ = sideOf (s .right) in
-        eqb (s .owner) 0 && ((ltb l (n + m) && ltb r (n + m)) && derivesBy steps i (s .kind) (s .numbers) l r)
+        ownerBy ls (s .owner) && ((ltb l (n + m) && ltb r (n + m)) && derivesBy steps i (s .owner) (s .kind) (s .numbers) l r)
 
   -- ---- conclusions, by the numbers of the stated differences
 
-  unfoldable pub apartBySteps : List (ℕ × ℕ) → List Step → Conclusion → ℕ → ℕ → Bool
-  apartBySteps diffs steps d l r =
-      let p : ℕ = leftAt diffs (d .difference - 1) in
-      let q : ℕ = rightAt diffs (d .difference - 1) in
+  -- a step that literal o may use has the sides of a stated difference
+  unfoldable pub differsBySteps : List (ℕ × ℕ) → List Step → ℕ → Conclusion → Bool
+  differsBySteps diffs steps o d =
       counts (length diffs) (d .difference)
-      && oriented (d .orientation) (citedBy steps (length steps) (d .first) l p && citedBy steps (length steps) (d .second) r q)
-      (citedBy steps (length steps) (d .first) l q && citedBy steps (length steps) (d .second) r p)
+      && citedBy steps (length steps) o (d .first) (leftAt diffs (d .difference - 1)) (rightAt diffs (d .difference - 1))
 
-  unfoldable pub concludesBy : List (ℕ × ℕ) → List Step → Conclusion → Literal → Bool
-  concludesBy diffs steps d (equal p q) = citedBy steps (length steps) (d .first) (numberAt ns (n + p)) (numberAt ns (n + q))
-  concludesBy diffs steps d (unequal p q) = apartBySteps diffs steps d (numberAt ns (n + p)) (numberAt ns (n + q))
+  -- of literal o
+  unfoldable pub concludesBy : List (ℕ × ℕ) → List Step → ℕ → Conclusion → Literal → Bool
+  concludesBy diffs steps o d (equal p q) = citedBy steps (length steps) 0 (d .first) (numberAt ns (n + p)) (numberAt ns (n + q))
+  concludesBy diffs steps o d (unequal p q) = differsBySteps diffs steps o d
 
   -- literal j + 1 is shown
   unfoldable pub concludedBy : List (ℕ × ℕ) → List Literal → List Step → List Conclusion → ℕ → Bool
-  concludedBy diffs ls steps ds j = concludesBy diffs steps (conclusionFor (suc j) ds) (literalAt ls j)
+  concludedBy diffs ls steps ds j = concludesBy diffs steps (suc j) (conclusionFor (suc j) ds) (literalAt ls j)
 
 -- ---- the verdict
 
@@ -189,6 +210,6 @@ verdictBy c k a steps ds =
     let ns : List ℕ = numbersOf es in
     let vs : ℕ = variables (k .patterns) in
     let v : ℕ = firstFalse (assignedBy n a) 0 vs in
-    let i : ℕ = firstFalse (followsBy ns n m (keysOf ns es) (numbered ns (equations c)) steps) 0 (length steps) in
+    let i : ℕ = firstFalse (followsBy ns n m (keysOf ns es) (numbered ns (equations c)) (k .literals) steps) 0 (length steps) in
     let j : ℕ = firstFalse (concludedBy ns n m (numbered ns (differences c)) (k .literals) steps ds) 0 (length (k .literals)) in
     choose v vs (unassigned v) (choose i (length steps) (bad (suc i)) (choose j (length (k .literals)) (unconcluded (suc j)) accepted))

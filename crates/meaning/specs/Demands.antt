@@ -1,7 +1,7 @@
 -- The three demands, of any candidate: a finder takes a text to a reply, a normaliser a text and a lent space to an answer and the space.
 --     RefusesRightly, LeavesRightly  demand 1: each refusal exactly where the list has it, and then no lent byte is written
---     FindsFirst                     demand 2: the first breach exactly where it is one, none exactly when there is none
---     KeepsMeaning                   demand 3: which normal texts agree, normalising twice, one reply for every rule
+--     FindsFirst                     demand 2: the first breach exactly where it is one, none exactly when there is none; differences follow
+--     KeepsMeaning                   demand 3: which normal texts agree, by what is equal and what is kept apart; normalising twice; one reply for every rule
 -- Assumes nothing.
 use mathlib.Core.List.{List, [], _++_}
 use mathlib.Core.Path.{_≡_}
@@ -28,7 +28,7 @@ pub record LeavesRightly (n : Normaliser) : Type 0 where
   pub refuses : (text lent : List ℕ) (r : Refusal) → (n text lent .0 ≡ unwritten r) ↔ Writes narrow text lent (unwritten r) lent
   pub leaves : (text lent : List ℕ) (r : Refusal) → n text lent .0 ≡ unwritten r → n text lent .1 ≡ lent
 
--- ---- demand 2
+-- ---- demand 2, with unequal literals as `Differ` says: differences that follow
 abbrev pub FindsFirst : Finder → Type 0
 FindsFirst f = (text : List ℕ) (r : Found) → (f text ≡ replyOf r) ↔ Replies narrow text (replyOf r)
 
@@ -39,7 +39,7 @@ abbrev pub Gives : Normaliser → List ℕ → List ℕ → Type 0
 Gives n text normal =
     (lent : List ℕ) → length normal ≤ length lent → n text lent ≡ (wrote (length normal), normal ++ drop (length normal) lent)
 
--- the same rows are equal, and the same rows are kept apart
+-- the same rows are equal, and the same rows are kept apart: equal to the two sides of a stated difference
 pub record Alike (c d : Context) : Type 0 where
   pub equal : (i j : ℕ) → i < length (c .rows) → j < length (c .rows)
       → EqualIn c (termAt (c .rows) i) (termAt (c .rows) j) ↔ EqualIn d (termAt (d .rows) i) (termAt (d .rows) j)

@@ -1,6 +1,7 @@
 -- When two terms are equal, when they are kept apart, when a context contradicts itself, and what a closing promises.
 --     Same, Equal          derivable: given, reflexive, symmetric, transitive, congruent
---     Apart                a stated difference, in either orientation, up to equality
+--     Apart                kept apart: a stated difference, in either orientation, up to equality
+--     Adding, EqualAdding  what is stated and the equation of two terms; what is derivable from that
 --     Clash, FirstClash    a stated difference with equal sides; the first one
 --     Lowest, Promise      a row's representative; what a closing promises of a table of n places
 -- Assumes nothing.
@@ -44,6 +45,14 @@ EqualIn c = Equal (c .rows) (equations c)
 
 abbrev pub ApartIn : Context → Term → Term → Type 0
 ApartIn c = Apart (c .rows) (equations c) (differences c)
+
+-- the stated equations and t = u
+pub data Adding (rows : List Row) (eqs : List (ℕ × ℕ)) (t u : Term) : Term → Term → Type 0 where
+  stated : {p q : Term} → Stated rows eqs p q → Adding rows eqs t u p q
+  added : Adding rows eqs t u t u
+
+abbrev pub EqualAdding : Context → Term → Term → Term → Term → Type 0
+EqualAdding c t u = Same (Adding (c .rows) (equations c) t u)
 
 -- the sides of the stated difference n, counted from 0, are equal
 abbrev pub Clash : Context → ℕ → Type 0

@@ -1,34 +1,13 @@
--- Differences that follow from the stated ones: two terms differ when adding their equation would make the two sides of some stated difference equal.
---     Adding, EqualAdding     what is stated and the equation t = u; what is derivable from that
---     DifferWider             the sides of some stated difference become equal
---     withEquation            a context that states the equation of two rows too
---     followsBy               whether some stated difference has one representative
---     occursBy                whether a class has an argument of some row or a side of some difference
+-- Whether two rows differ is told by a table of representatives of the context with one equation more.
+--     withEquation   a context that states the equation of two rows too
+--     followsBy      whether some stated difference has one representative
+--     occursBy       whether a class has an argument of some row or a side of some difference
 -- Assumes nothing.
 use mathlib.Core.Bool.{Bool, false, _||_}
 use mathlib.Core.List.{List, [], _∷_}
-use Prim.Native.Nat.{ℕ, _<_}
+use Prim.Native.Nat.{ℕ}
 use lib.Dec.{eqb}
-use lib.ListN.{length}
-use Rattle.meaning.specs.Context.{Term, Row, termAt, same, Context, equations, differences, leftAt, rightAt}
-use Rattle.meaning.specs.Equality.{Same, Stated}
-
--- ---- the meaning, of any two ground terms
-
-pub data Adding (rows : List Row) (eqs : List (ℕ × ℕ)) (t u : Term) : Term → Term → Type 0 where
-  stated : {p q : Term} → Stated rows eqs p q → Adding rows eqs t u p q
-  added : Adding rows eqs t u t u
-
-abbrev pub EqualAdding : Context → Term → Term → Term → Term → Type 0
-EqualAdding c t u = Same (Adding (c .rows) (equations c) t u)
-
-abbrev pub DifferWider : Context → Term → Term → Type 0
-DifferWider c t u =
-    (k : ℕ)
-    × (k < length (differences c))
-    × EqualAdding c t u (termAt (c .rows) (leftAt (differences c) k)) (termAt (c .rows) (rightAt (differences c) k))
-
--- ---- the same, of two rows
+use Rattle.meaning.specs.Context.{Row, same, Context}
 
 abbrev pub withEquation : Context → ℕ → ℕ → Context
 withEquation c i j = record { rows = c .rows; statements = same i j ∷ c .statements }

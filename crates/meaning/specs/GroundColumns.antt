@@ -33,7 +33,7 @@ stepsFrom (x ∷ xs) [] zs = []
 stepsFrom (x ∷ xs) (y ∷ ys) [] = []
 stepsFrom (x ∷ xs) (y ∷ ys) (z ∷ zs) = stepFrom x y z ∷ stepsFrom xs ys zs
 
--- steps by their first words, where only their sides are read
+-- steps by their first words, where only their owners and sides are read
 unfoldable pub sidesOf : List ℕ → List Step
 sidesOf words = map (λ x. stepFrom x 0 0) words
 

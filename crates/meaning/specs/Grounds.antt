@@ -1,7 +1,8 @@
 -- Grounds for a breach: numbered steps, a conclusion for each literal, and what has to be answered to them.
 --     Ref, Step, Conclusion       a term by its mark and row; an equality stated with its reason; how a literal is shown
 --     Stands                      the term that a reference stands for under an assignment
---     Cites, PairAt               step n of some steps has two terms for sides; stated pair n is of two terms
+--     PairAt, UnequalAt           stated pair n is of two terms; unequal literal n has two terms for instances
+--     Cites                       step n of some steps has two terms for sides, and may be used by an owner
 --     Follows                     a step follows from the steps before it
 --     Concludes, conclusionFor    a conclusion shows a literal; the conclusion that counts for a literal
 --     Verdict, Verified           what is answered: the first variable without a row, else the first bad step, else the first literal not shown
@@ -10,6 +11,7 @@
 use mathlib.Core.Bool.{true, false}
 use mathlib.Core.List.{List, [], _∷_}
 use mathlib.Core.Path.{_≡_}
+use mathlib.Core.Logic.{_⊎_}
 use Prim.Native.Nat.{ℕ, suc, _<_, _/_, _%_}
 use lib.Dec.{eqb}
 use lib.ListN.{length, getD, take}
@@ -21,7 +23,7 @@ pub record Ref : Type 0 where
   pub mark : ℕ
   pub row : ℕ
 
--- owner 0 is shared; the numbers are four
+-- owner 0 is shared, and owner n is the unequal literal n; the numbers are four
 pub record Step : Type 0 where
   pub owner : ℕ
   pub kind : ℕ
@@ -29,6 +31,7 @@ pub record Step : Type 0 where
   pub right : Ref
   pub numbers : List ℕ
 
+-- second and orientation are not read
 pub record Conclusion : Type 0 where
   pub literal : ℕ
   pub first : ℕ
@@ -74,31 +77,54 @@ module _ (c : Context) (k : Clause) (a : List ℕ) where
     for-row : r .mark ≡ 0 → r .row < length (c .rows) → t ≡ termAt (c .rows) (r .row) → Stands r t
     for-instance : r .mark ≡ 1 → r .row < length (k .patterns) → t ≡ getD (instancesOf c k a) (r .row) term₀ → Stands r t
 
-  -- step n is one of these, and its sides are t and u
-  pub record Cites (steps : List Step) (n : ℕ) (t u : Term) : Type 0 where
+  abbrev pub instanceAt : ℕ → Term
+  instanceAt p = getD (instancesOf c k a) p term₀
+
+  -- literal n is unequal, and its instances are t and u, in its order
+  pub record UnequalAt (n : ℕ) (t u : Term) : Type 0 where
+    pub place : ℕ
+    pub counted : n ≡ suc place
+    pub inside : place < length (k .literals)
+    pub leftRow : ℕ
+    pub rightRow : ℕ
+    pub literal : literalAt (k .literals) place ≡ unequal leftRow rightRow
+    pub left : t ≡ instanceAt leftRow
+    pub right : u ≡ instanceAt rightRow
+
+  -- step n is one of these, shared or of that owner, and its sides are t and u
+  pub record Cites (steps : List Step) (owner n : ℕ) (t u : Term) : Type 0 where
     pub place : ℕ
     pub counted : n ≡ suc place
     pub inside : place < length steps
+    pub usable : (stepAt steps place .owner ≡ 0) ⊎ (stepAt steps place .owner ≡ owner)
     pub left : Stands (stepAt steps place .left) t
     pub right : Stands (stepAt steps place .right) u
 
   -- the numbers cite a step for each two arguments, in order
-  pub data CitesEach (steps : List Step) : List ℕ → Terms → Terms → Type 0 where
-    each-stop : {ns : List ℕ} → CitesEach steps ns stop stop
-    each-more : {n : ℕ} {ns : List ℕ} {t u : Term} {ts us : Terms} → Cites steps n t u → CitesEach steps ns ts us
-        → CitesEach steps (n ∷ ns) (more t ts) (more u us)
+  pub data CitesEach (steps : List Step) (owner : ℕ) : List ℕ → Terms → Terms → Type 0 where
+    each-stop : {ns : List ℕ} → CitesEach steps owner ns stop stop
+    each-more : {n : ℕ} {ns : List ℕ} {t u : Term} {ts us : Terms} → Cites steps owner n t u → CitesEach steps owner ns ts us
+        → CitesEach steps owner (n ∷ ns) (more t ts) (more u us)
 
-  -- the five kinds of step
+  -- the six kinds of step; the added equation is that of the owner
   pub data Derives (earlier : List Step) (s : Step) (t u : Term) : Type 0 where
     by-statement : s .kind ≡ 1 → PairAt (c .rows) (equations c) (numberIn s 0) t u → Derives earlier s t u
     by-reflexivity : s .kind ≡ 2 → t ≡ u → Derives earlier s t u
-    by-symmetry : s .kind ≡ 3 → Cites earlier (numberIn s 0) u t → Derives earlier s t u
-    by-transitivity : s .kind ≡ 4 → (m : Term) → Cites earlier (numberIn s 0) t m → Cites earlier (numberIn s 1) m u → Derives earlier s t u
-    by-congruence : s .kind ≡ 5 → (f : ℕ) (ts us : Terms) → t ≡ node f ts → u ≡ node f us → CitesEach earlier (s .numbers) ts us → Derives earlier s t u
+    by-symmetry : s .kind ≡ 3 → Cites earlier (s .owner) (numberIn s 0) u t → Derives earlier s t u
+    by-transitivity : s .kind ≡ 4 → (m : Term) → Cites earlier (s .owner) (numberIn s 0) t m → Cites earlier (s .owner) (numberIn s 1) m u
+        → Derives earlier s t u
+    by-congruence : s .kind ≡ 5 → (f : ℕ) (ts us : Terms) → t ≡ node f ts → u ≡ node f us → CitesEach earlier (s .owner) (s .numbers) ts us
+        → Derives earlier s t u
+    by-addition : s .kind ≡ 6 → UnequalAt (s .owner) t u → Derives earlier s t u
 
-  -- a shared step between two terms that are there
+  -- all literals share, or an unequal literal owns
+  pub data Owner (n : ℕ) : Type 0 where
+    shared : n ≡ 0 → Owner n
+    owned : (t u : Term) → UnequalAt n t u → Owner n
+
+  -- a step of some owner between two terms that are there
   pub record Follows (earlier : List Step) (s : Step) : Type 0 where
-    pub shared : s .owner ≡ 0
+    pub owner : Owner (s .owner)
     pub leftTerm : Term
     pub rightTerm : Term
     pub left : Stands (s .left) leftTerm
@@ -107,21 +133,17 @@ module _ (c : Context) (k : Clause) (a : List ℕ) where
 
   -- ---- the conclusions
 
-  -- t and u are equal to the two sides of a stated difference, in its order or crosswise
-  pub data ShowsApart (steps : List Step) (d : Conclusion) (t u : Term) : Type 0 where
-    straight : d .orientation ≡ 0 → (p q : Term) → PairAt (c .rows) (differences c) (d .difference) p q → Cites steps (d .first) t p
-        → Cites steps (d .second) u q
-        → ShowsApart steps d t u
-    crosswise : d .orientation ≡ 1 → (p q : Term) → PairAt (c .rows) (differences c) (d .difference) p q → Cites steps (d .first) t q
-        → Cites steps (d .second) u p
-        → ShowsApart steps d t u
+  -- a step, shared or of literal n, has the two sides of a stated difference, in its order
+  pub record ShowsDiffer (steps : List Step) (n : ℕ) (d : Conclusion) : Type 0 where
+    pub left : Term
+    pub right : Term
+    pub pair : PairAt (c .rows) (differences c) (d .difference) left right
+    pub cites : Cites steps n (d .first) left right
 
-  abbrev pub instanceAt : ℕ → Term
-  instanceAt p = getD (instancesOf c k a) p term₀
-
-  abbrev pub Concludes : List Step → Conclusion → Literal → Type 0
-  Concludes steps d (equal p q) = Cites steps (d .first) (instanceAt p) (instanceAt q)
-  Concludes steps d (unequal p q) = ShowsApart steps d (instanceAt p) (instanceAt q)
+  -- of literal n
+  abbrev pub Concludes : List Step → ℕ → Conclusion → Literal → Type 0
+  Concludes steps n d (equal p q) = Cites steps 0 (d .first) (instanceAt p) (instanceAt q)
+  Concludes steps n d (unequal p q) = ShowsDiffer steps n d
 
 -- cites no step
 abbrev pub absent : ℕ → Conclusion
@@ -169,7 +191,7 @@ module _ (c : Context) (k : Clause) (a : List ℕ) (steps : List Step) (ds : Lis
   FollowsAt i = Follows c k a (take i steps) (stepAt steps i)
 
   abbrev pub ConcludedAt : ℕ → Type 0
-  ConcludedAt i = Concludes c k a steps (conclusionFor (suc i) ds) (literalAt (k .literals) i)
+  ConcludedAt i = Concludes c k a steps (suc i) (conclusionFor (suc i) ds) (literalAt (k .literals) i)
 
   -- places past the number of variables are not read
   pub data Verified : Verdict → Type 0 where

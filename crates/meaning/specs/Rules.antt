@@ -10,8 +10,8 @@ use mathlib.Core.Path.{_≡_}
 use mathlib.Core.Logic.{_⊎_}
 use Prim.Native.Nat.{ℕ, suc, _<_, max}
 use lib.ListN.{length, getD}
-use Rattle.meaning.specs.Context.{Term, node, term₀, pick, terms, Context}
-use Rattle.meaning.specs.Equality.{EqualIn, ApartIn}
+use Rattle.meaning.specs.Context.{Term, node, term₀, pick, terms, termAt, Context, differences, leftAt, rightAt}
+use Rattle.meaning.specs.Equality.{EqualIn, EqualAdding}
 
 -- a variable, or a symbol over earlier pattern rows
 pub data Pattern : Type 0 where
@@ -43,9 +43,12 @@ fill chosen done (p ∷ ps) = fill chosen (done ++ (instance chosen done p ∷ [
 unfoldable pub instances : List Pattern → List Term → List Term
 instances ps chosen = fill chosen [] ps
 
--- what an unequal literal asks of its two instances
+-- what an unequal literal asks of its two instances: adding their equation would make the two sides of some stated difference equal
 abbrev pub Differ : Context → Term → Term → Type 0
-Differ c s t = ApartIn c s t
+Differ c t u =
+    (k : ℕ)
+    × (k < length (differences c))
+    × EqualAdding c t u (termAt (c .rows) (leftAt (differences c) k)) (termAt (c .rows) (rightAt (differences c) k))
 
 abbrev pub Holds : Context → List Term → Literal → Type 0
 Holds c ts (equal p q) = EqualIn c (getD ts p term₀) (getD ts q term₀)

@@ -69,10 +69,10 @@ sheet =
     ∷ represents "01000100\n0101010100\n0101010101\n0101010102\n0101010103\n0101010104\n020300\n020500\n" (0 ∷ 0 ∷ 0 ∷ 0 ∷ 0 ∷ 0 ∷ [])
     -- P10: the constant a twice
     ∷ equates "01000100\n01000100\n" 0 1
-    -- P11: g(f(a), h(b)) and g(f(b), h(a)) differ; x unequal a
+    -- P11: g(f(a), h(b)) and g(f(b), h(a)) differ; x unequal a: they would be the same if a and b were
     ∷ gets
     "01000100\n01000200\n0101010100\n0101020101\n0101010101\n0101020100\n010201020203\n010201020405\n030607\n0400\n05000100\n070001\n"
-    none
+    (breach (1 ∷ []))
     -- P12: one row a; x = f(x)
     ∷ gets "01000100\n0400\n0501010100\n060001\n" none
     ∷ []
@@ -85,6 +85,14 @@ further =
     ∷ gets "01000100\n0400\n0500010100\n060000\n" (refused (refusal 7 3))
     -- row a; x0, x1, f(x1), f(x0), f(x0); row 4 = row 3, row 2 = row 3
     ∷ gets "01000100\n0400\n0401\n0501010101\n0501010100\n0501010100\n060403\n060203\n" (breach (0 ∷ 0 ∷ []))
+    -- f(f(a)) and f(f(b)) differ; x unequal b: two levels deep
+    ∷ gets "01000100\n01000200\n0101010100\n0101010101\n0101010102\n0101010103\n030405\n0400\n05000200\n070001\n" (breach (0 ∷ []))
+    -- g(a, b) and g(c, d) differ; a unequal c, b unequal d: the two equations together would make them the same, and neither does
+    ∷ gets
+    "01000100\n01000200\n01000300\n01000400\n010201020001\n010201020203\n030405\n05000100\n05000300\n05000200\n05000400\n070001\n070203\n"
+    none
+    -- a and b differ; x unequal f(x), which no row is equal to
+    ∷ gets "01000100\n01000200\n030001\n0400\n0501010100\n070001\n" none
     ∷ []
 
 -- a refusal with the line and the byte

@@ -1,13 +1,14 @@
 -- What a search for the first breach can leave out, whatever the table is: it may be closed or not. What a literal asks of two numbers is settled by the values
 -- that they name, and the value of a row rests on no variable that its term has not.
+--     OfClasses       only numbers below the offset differ, which are those of classes
 --     free-sought     a variable that no literal that is asked reaches may take its first open row alone
 --     freed-first     a search that does so gives what the plain search gives
---     never-none      where no difference clashes, a clause with a literal p unequal p has no breach
+--     never-none      where no number differs from itself, a clause with a literal p unequal p has no breach
 -- Assumes nothing.
 use mathlib.Core.Bool.{Bool, true, false, not, _&&_, _||_}
 use mathlib.Core.List.{List, [], _∷_, _++_}
-use mathlib.Core.Path.{_≡_, refl, ap, sym, _∙_, subst}
-use mathlib.Core.Logic.{inl, inr, ⊎-elim}
+use mathlib.Core.Path.{_≡_, refl, ap, ap₂, sym, _∙_}
+use mathlib.Core.Logic.{⊎-elim}
 use Prim.Native.Nat.{ℕ, zero, suc, _<_}
 use native.Mathlib.Omega.{arith}
 use borrow.Author.Tests.{eqb-true, eq-eqb, not-true}
@@ -15,11 +16,9 @@ use lib.ListN.{length, getD, length-append}
 use Rattle.meaning.specs.Context.{Row, node, stop, term₀}
 use Rattle.meaning.specs.Rules.{Pattern, variables, Literal, equal, unequal, Clause, Found, found, nothing, First}
 use Rattle.meaning.specs.Formed.{AllPlaced, Names, NamesAll, leftOf, rightOf}
-use Rattle.meaning.specs.ByTable.{clear, clashOf, apartBy}
 use Rattle.meaning.specs.Values.{numberAt, numbers}
 use Rattle.meaning.specs.FirstBy.{holdsBy, allHoldBy, breaks, firstBy}
 use Rattle.meaning.proofs.Logic.{and-true-left, and-true-right, and-both, or-none, or-cases, false-true}
-use Rattle.meaning.proofs.Apartness.{Meets, apartBy-true, Told, clash-told}
 use Rattle.meaning.proofs.Box.{Mem, AllIn}
 use Rattle.meaning.proofs.Search.{search, Prunes}
 use Rattle.meaning.proofs.Seek.{starts, starts-rising, lowest-self, seek-first}
@@ -32,7 +31,11 @@ use Rattle.plan.proofs.Valued.{value, number-equal, number-class, marks
 
 -- ---- literals
 
-module _ (rows : List Row) (rep : ℕ → ℕ) (offset : ℕ) (low : (i : ℕ) → rep i < offset) (ds : List (ℕ × ℕ)) (ps : List Pattern) (placed : AllPlaced 0 ps)
+abbrev pub OfClasses : ℕ → (ℕ → ℕ → Bool) → Type 0
+OfClasses offset differs = (n m : ℕ) → differs n m ≡ true → (n < offset) × (m < offset)
+
+module _ (rows : List Row) (rep : ℕ → ℕ) (offset : ℕ) (low : (i : ℕ) → rep i < offset) (differs : ℕ → ℕ → Bool) (within : OfClasses offset differs)
+    (ps : List Pattern) (placed : AllPlaced 0 ps)
     (given other : List ℕ) (means : (v : ℕ) → v < variables ps → numberAt given v < offset) (means′ : (v : ℕ) → v < variables ps → numberAt other v < offset) where
   abbrev nums : List ℕ
   nums = numbers rows rep offset ps given
@@ -43,58 +46,54 @@ module _ (rows : List Row) (rep : ℕ → ℕ) (offset : ℕ) (low : (i : ℕ) �
   abbrev One : ℕ → Type 0
   One p = value rows rep ps given p ≡ value rows rep ps other p
 
-  class-carries : (p r : ℕ) → p < length ps → One p → numberAt nums p ≡ rep r → numberAt nums′ p ≡ rep r
-  class-carries p r h o e =
-      number-class rows rep offset low ps placed other means′ p (rep r) h (low r) .1
-      (sym o ∙ number-class rows rep offset low ps placed given means p (rep r) h (low r) .0 e)
+  class-carries : (p : ℕ) → p < length ps → One p → numberAt nums p < offset → numberAt nums′ p ≡ numberAt nums p
+  class-carries p h o l =
+      number-class rows rep offset low ps placed other means′ p (numberAt nums p) h l .1
+      (sym o ∙ number-class rows rep offset low ps placed given means p (numberAt nums p) h l .0 refl)
 
   equal-carries : (p q : ℕ) → p < length ps → q < length ps → One p → One q → numberAt nums p ≡ numberAt nums q → numberAt nums′ p ≡ numberAt nums′ q
   equal-carries p q hp hq op oq e =
       number-equal rows rep offset low ps placed other means′ p q hp hq .1
       (sym op ∙ number-equal rows rep offset low ps placed given means p q hp hq .0 e ∙ oq)
 
-  apart-carries : (p q : ℕ) → p < length ps → q < length ps → One p → One q → apartBy rep ds (numberAt nums p) (numberAt nums q) ≡ true
-      → apartBy rep ds (numberAt nums′ p) (numberAt nums′ q) ≡ true
-  apart-carries p q hp hq op oq e =
-      let w : (k : ℕ) × (k < length ds) × Meets rep (numberAt nums p) (numberAt nums q) (getD ds k (0, 0)) = apartBy-true rep ds (numberAt nums p) (numberAt nums q) .0 e in
-      apartBy-true rep ds (numberAt nums′ p) (numberAt nums′ q) .1 (
-        w .0,
-        w .1,
-        ⊎-elim (λ m. inl (class-carries p _ hp op (m .0), class-carries q _ hq oq (m .1))) (λ m. inr (class-carries q _ hq oq (m .0), class-carries p _ hp op (m .1))) (w .2),
-      )
+  differs-carries : (p q : ℕ) → p < length ps → q < length ps → One p → One q → differs (numberAt nums p) (numberAt nums q) ≡ true
+      → differs (numberAt nums′ p) (numberAt nums′ q) ≡ true
+  differs-carries p q hp hq op oq e =
+      let w : (numberAt nums p < offset) × (numberAt nums q < offset) = within (numberAt nums p) (numberAt nums q) e in
+      ap₂ differs (class-carries p hp op (w .0)) (class-carries q hq oq (w .1)) ∙ e
 
-  holds-carries : (l : Literal) → Names (length ps) l → One (leftOf l) → One (rightOf l) → holdsBy (apartBy rep ds) nums l ≡ true → holdsBy (apartBy rep ds) nums′ l ≡ true
+  holds-carries : (l : Literal) → Names (length ps) l → One (leftOf l) → One (rightOf l) → holdsBy differs nums l ≡ true → holdsBy differs nums′ l ≡ true
   unfolding holdsBy
   holds-carries (equal p q) h op oq e =
       eq-eqb (numberAt nums′ p) (numberAt nums′ q) (equal-carries p q (h .0) (h .1) op oq (eqb-true (numberAt nums p) (numberAt nums q) e))
-  holds-carries (unequal p q) h op oq e = apart-carries p q (h .0) (h .1) op oq e
+  holds-carries (unequal p q) h op oq e = differs-carries p q (h .0) (h .1) op oq e
 
   -- a literal that is not asked holds
-  idle-holds : (l : Literal) → idle l ≡ true → holdsBy (apartBy rep ds) nums′ l ≡ true
+  idle-holds : (l : Literal) → idle l ≡ true → holdsBy differs nums′ l ≡ true
   unfolding idle holdsBy
   idle-holds (equal p q) e = eq-eqb (numberAt nums′ p) (numberAt nums′ q) (ap (numberAt nums′) (eqb-true p q e))
   idle-holds (unequal p q) e = false-true e refl
 
   all-carry : (bs : List Bool) → ((p : ℕ) → p < length ps → getD bs p false ≡ false → One p) → (ls : List Literal) → NamesAll (length ps) ls
-      → noneTouch bs (asked ls) ≡ true → allHoldBy (apartBy rep ds) nums ls ≡ true → allHoldBy (apartBy rep ds) nums′ ls ≡ true
+      → noneTouch bs (asked ls) ≡ true → allHoldBy differs nums ls ≡ true → allHoldBy differs nums′ ls ≡ true
   unfolding allHoldBy asked noneTouch
   all-carry bs f [] h n e = refl
   all-carry bs f (l ∷ ls) h n e = go (idle l) refl
-      (λ m. all-carry bs f ls (h .1) m (and-true-right (holdsBy (apartBy rep ds) nums l) (allHoldBy (apartBy rep ds) nums ls) e))
+      (λ m. all-carry bs f ls (h .1) m (and-true-right (holdsBy differs nums l) (allHoldBy differs nums ls) e))
     where
-      holds : holdsBy (apartBy rep ds) nums l ≡ true
-      holds = and-true-left (holdsBy (apartBy rep ds) nums l) (allHoldBy (apartBy rep ds) nums ls) e
+      holds : holdsBy differs nums l ≡ true
+      holds = and-true-left (holdsBy differs nums l) (allHoldBy differs nums ls) e
 
-      go : (b : Bool) → idle l ≡ b → (noneTouch bs (asked ls) ≡ true → allHoldBy (apartBy rep ds) nums′ ls ≡ true)
-          → (holdsBy (apartBy rep ds) nums′ l && allHoldBy (apartBy rep ds) nums′ ls) ≡ true
+      go : (b : Bool) → idle l ≡ b → (noneTouch bs (asked ls) ≡ true → allHoldBy differs nums′ ls ≡ true)
+          → (holdsBy differs nums′ l && allHoldBy differs nums′ ls) ≡ true
       go true i rest =
-          and-both (holdsBy (apartBy rep ds) nums′ l) (allHoldBy (apartBy rep ds) nums′ ls) (idle-holds l i) (rest (rw (i, asked) at n))
+          and-both (holdsBy differs nums′ l) (allHoldBy differs nums′ ls) (idle-holds l i) (rest (rw (i, asked) at n))
       go false i rest =
           let a : Bool = getD bs (leftOf l) false in
           let b : Bool = getD bs (rightOf l) false in
           let t : (not (a || b) && noneTouch bs (asked ls)) ≡ true = rw (i, asked, noneTouch) at n in
           let w : (a ≡ false) × (b ≡ false) = or-none a b (not-true (a || b) (and-true-left (not (a || b)) (noneTouch bs (asked ls)) t)) in
-          and-both (holdsBy (apartBy rep ds) nums′ l) (allHoldBy (apartBy rep ds) nums′ ls)
+          and-both (holdsBy differs nums′ l) (allHoldBy differs nums′ ls)
           (holds-carries l (h .0) (f (leftOf l) (h .0 .0) (w .0)) (f (rightOf l) (h .0 .1) (w .1)) holds)
           (rest (and-true-right (not (a || b)) (noneTouch bs (asked ls)) t))
 
@@ -117,15 +116,15 @@ all-class rows rep offset low [] i v h = absurd (omega arith)
 all-class rows rep offset low (x ∷ a) i zero h = omega (arith, low x, lowest-self rep x 0 (length rows) (i .0))
 all-class rows rep offset low (x ∷ a) i (suc v) h = all-class rows rep offset low a (i .1) v (omega arith)
 
-module _ (rows : List Row) (rep : ℕ → ℕ) (offset : ℕ) (ds : List (ℕ × ℕ)) (k : Clause) where
-  module _ (placed : AllPlaced 0 (k .patterns)) (named : NamesAll (length (k .patterns)) (k .literals)) (low : (i : ℕ) → rep i < offset) where
+module _ (rows : List Row) (rep : ℕ → ℕ) (offset : ℕ) (differs : ℕ → ℕ → Bool) (k : Clause) where
+  module _ (within : OfClasses offset differs) (placed : AllPlaced 0 (k .patterns)) (named : NamesAll (length (k .patterns)) (k .literals)) (low : (i : ℕ) → rep i < offset) where
     free-swap : (chosen : List ℕ) (x y : ℕ) (r : List ℕ) → freeBy k (length chosen) ≡ true → Mem x (starts rows rep)
-        → Sought (apartBy rep ds) rows rep offset k (chosen ++ y ∷ r) → Sought (apartBy rep ds) rows rep offset k (chosen ++ x ∷ r)
+        → Sought differs rows rep offset k (chosen ++ y ∷ r) → Sought differs rows rep offset k (chosen ++ x ∷ r)
     unfolding freeBy breaks
     free-swap chosen x y r e m w = (
       long,
       inside,
-      all-carry rows rep offset low ds (k .patterns) placed (chosen ++ y ∷ r) (chosen ++ x ∷ r)
+      all-carry rows rep offset low differs within (k .patterns) placed (chosen ++ y ∷ r) (chosen ++ x ∷ r)
           (λ v h. all-class rows rep offset low (chosen ++ y ∷ r) (w .1) v (omega (arith, w .0)))
           (λ v h. all-class rows rep offset low (chosen ++ x ∷ r) inside v (omega (arith, long)))
           (touches (length chosen) (k .patterns))
@@ -146,39 +145,34 @@ module _ (rows : List Row) (rep : ℕ → ℕ) (offset : ℕ) (ds : List (ℕ ×
         others : (v : ℕ) → (v ≡ length chosen → ⊥) → getD (marks (chosen ++ y ∷ r)) v term₀ ≡ getD (marks (chosen ++ x ∷ r)) v term₀
         others v n = mark-at (chosen ++ y ∷ r) v ∙ ap (λ (z : ℕ). node z stop) (put-other chosen y x r v n) ∙ sym (mark-at (chosen ++ x ∷ r) v)
 
-    pub free-sought : Prunes (Sought (apartBy rep ds) rows rep offset k) (starts rows rep) (takeFirst (freeBy k))
-    free-sought = free-prunes (Sought (apartBy rep ds) rows rep offset k) (starts rows rep) (freeBy k) free-swap
+    pub free-sought : Prunes (Sought differs rows rep offset k) (starts rows rep) (takeFirst (freeBy k))
+    free-sought = free-prunes (Sought differs rows rep offset k) (starts rows rep) (freeBy k) free-swap
 
-    pub freed-first : search (deadNow (apartBy rep ds) rows rep offset k) (takeFirst (freeBy k)) (variables (k .patterns)) [] (startBox rows rep k)
-        ≡ firstBy (apartBy rep ds) rows rep offset k
-    freed-first = due-first (apartBy rep ds) rows rep offset k (takeFirst (freeBy k)) free-sought
+    pub freed-first : search (deadNow differs rows rep offset k) (takeFirst (freeBy k)) (variables (k .patterns)) [] (startBox rows rep k)
+        ≡ firstBy differs rows rep offset k
+    freed-first = due-first differs rows rep offset k (takeFirst (freeBy k)) free-sought
 
   -- ---- a literal p unequal p
 
-  module _ (none : clashOf rep ds ≡ clear) where
-    apart-self : (n : ℕ) → apartBy rep ds n n ≡ true → ⊥
-    apart-self n e =
-        let w : (i : ℕ) × (i < length ds) × Meets rep n n (getD ds i (0, 0)) = apartBy-true rep ds n n .0 e in
-        subst (Told rep 0 ds) none (clash-told rep ds) (w .0) (w .1, ⊎-elim (λ m. sym (m .0) ∙ m .1) (λ m. sym (m .0) ∙ m .1) (w .2))
-
-    never-holds : (ns : List ℕ) (ls : List Literal) → never ls ≡ true → allHoldBy (apartBy rep ds) ns ls ≡ true → ⊥
+  module _ (unlike : (n : ℕ) → differs n n ≡ false) where
+    never-holds : (ns : List ℕ) (ls : List Literal) → never ls ≡ true → allHoldBy differs ns ls ≡ true → ⊥
     unfolding never allHoldBy selfUnequal holdsBy
     never-holds ns [] e h = false-true e refl
     never-holds ns (l ∷ ls) e h =
-        ⊎-elim (λ s. self l s (and-true-left (holdsBy (apartBy rep ds) ns l) (allHoldBy (apartBy rep ds) ns ls) h))
-        (λ s. never-holds ns ls s (and-true-right (holdsBy (apartBy rep ds) ns l) (allHoldBy (apartBy rep ds) ns ls) h))
+        ⊎-elim (λ s. self l s (and-true-left (holdsBy differs ns l) (allHoldBy differs ns ls) h))
+        (λ s. never-holds ns ls s (and-true-right (holdsBy differs ns l) (allHoldBy differs ns ls) h))
         (or-cases (selfUnequal l) (never ls) e)
       where
-        self : (l : Literal) → selfUnequal l ≡ true → holdsBy (apartBy rep ds) ns l ≡ true → ⊥
+        self : (l : Literal) → selfUnequal l ≡ true → holdsBy differs ns l ≡ true → ⊥
         self (equal p q) s t = false-true s refl
-        self (unequal p q) s t = let z : p ≡ q = eqb-true p q s in apart-self (numberAt ns q) (rw z at t)
+        self (unequal p q) s t = let z : p ≡ q = eqb-true p q s in false-true (rw z at t) (unlike (numberAt ns q))
 
-    pub never-none : never (k .literals) ≡ true → firstBy (apartBy rep ds) rows rep offset k ≡ nothing
+    pub never-none : never (k .literals) ≡ true → firstBy differs rows rep offset k ≡ nothing
     unfolding firstBy breaks
     never-none e =
-        go (firstBy (apartBy rep ds) rows rep offset k)
-        (seek-first (breaks (apartBy rep ds) rows rep offset k) (starts rows rep) (starts-rising rows rep) (variables (k .patterns)))
+        go (firstBy differs rows rep offset k)
+        (seek-first (breaks differs rows rep offset k) (starts rows rep) (starts-rising rows rep) (variables (k .patterns)))
       where
-        go : (r : Found) → First (Sought (apartBy rep ds) rows rep offset k) r → r ≡ nothing
+        go : (r : Found) → First (Sought differs rows rep offset k) r → r ≡ nothing
         go (found a) f = absurd (never-holds (numbers rows rep offset (k .patterns) a) (k .literals) e (f .0 .2))
         go nothing f = refl

@@ -3,6 +3,7 @@
 --     lacking, no-lacking    none at once where a symbol of the clause has no context row: f(x) = f(b) over the rows a, b
 --     byRow, no-by-row       values numbered by row, where an equal row is looked for among the rows before it: x, y, f(y), f(x), f(x) over the row a
 --     last, no-last          the rows tried from the last to the first: x = x over the rows a, b
+--     stated, no-stated      a literal x unequal y that asks of the stated differences alone: x unequal a where f(a) and f(b) differ
 -- Assumes nothing.
 use mathlib.Core.Bool.{Bool, true, false, _||_}
 use mathlib.Core.List.{List, [], _∷_, _++_}
@@ -11,12 +12,16 @@ use Prim.Native.Nat.{ℕ, _+_}
 use native.Mathlib.Omega.{arith}
 use lib.Dec.{eqb, ltb}
 use lib.ListN.{length, set}
-use Rattle.meaning.specs.Context.{Row, Context, differences, differencesOf}
+use Rattle.meaning.specs.Context.{Row, differ, Context, equationsOf, differencesOf, differences}
 use Rattle.meaning.specs.Equality.{repAt}
-use Rattle.meaning.specs.Rules.{Pattern, variable, apply, equal, Clause, variables, Found, found, nothing}
+use Rattle.meaning.specs.Rules.{Pattern, variable, apply, equal, unequal, Clause, variables, Found, found, nothing}
 use Rattle.meaning.specs.ByTable.{apartBy, sameList}
+use Rattle.meaning.specs.Following.{followsBy}
 use Rattle.meaning.specs.Values.{Numbering, patternAt, numberOf, step, number, stages, numbers, unread, met, isOver, held, rowsAt, levels, levelsFrom, levelOf, highest}
 use Rattle.meaning.specs.FirstBy.{holdsBy, allHoldBy, lowest, orElse, tryAll, seek, breaks, firstBy}
+use Rattle.meaning.proofs.Progress.{move, total}
+use Rattle.meaning.proofs.Closing.{close, agree, rounds, round, rowsPass, rowPass, statedPass, upto, unite, uniteIf, count}
+use Rattle.meaning.proofs.FollowingNumbers.{widerBy}
 use Rattle.plan.specs.Planning.{upTo}
 use Rattle.search.specs.Finding.{foundBy}
 
@@ -52,7 +57,7 @@ besideB =
     }
 
 b-found : foundBy (stating (constant 1 ∷ constant 2 ∷ [])) (0 ∷ 1 ∷ []) besideB ≡ found (1 ∷ [])
-unfolding firstBy seek tryAll orElse lowest breaks allHoldBy holdsBy numbers stages number step numberOf met isOver held rowsAt levels levelsFrom levelOf highest apartBy sameList variables differencesOf
+unfolding firstBy seek tryAll orElse lowest breaks allHoldBy holdsBy numbers stages number step numberOf met isOver held rowsAt levels levelsFrom levelOf highest sameList variables
 b-found = refl
 
 b-lacks : lacking (constant 1 ∷ constant 2 ∷ []) (besideB .patterns) ≡ true
@@ -89,7 +94,7 @@ unfoldable pub byRow : Search
 byRow c table k =
     let rows : List Row = c .rows in
     let rep : ℕ → ℕ = repAt table in
-    seek (λ a. allHoldBy (apartBy rep (differences c)) (numberByRow rows rep (k .patterns) a (unread rows rep 65536 (k .patterns) a) (upTo (levels (k .patterns)) 5) .numbers) (k .literals))
+    seek (λ a. allHoldBy (widerBy c) (numberByRow rows rep (k .patterns) a (unread rows rep 65536 (k .patterns) a) (upTo (levels (k .patterns)) 5) .numbers) (k .literals))
     (lowest rep 0 (length rows)) (variables (k .patterns)) []
 
 -- f(x) = f(x), f(y) = f(x)
@@ -101,11 +106,11 @@ twice =
     }
 
 twice-found : foundBy (stating (constant 1 ∷ [])) (0 ∷ []) twice ≡ found (0 ∷ 0 ∷ [])
-unfolding firstBy seek tryAll orElse lowest breaks allHoldBy holdsBy numbers stages number step numberOf met isOver held rowsAt levels levelsFrom levelOf highest apartBy sameList variables differencesOf
+unfolding firstBy seek tryAll orElse lowest breaks allHoldBy holdsBy numbers stages number step numberOf met isOver held rowsAt levels levelsFrom levelOf highest sameList variables
 twice-found = refl
 
 twice-missed : byRow (stating (constant 1 ∷ [])) (0 ∷ []) twice ≡ nothing
-unfolding byRow before stepByRow numberByRow upTo seek tryAll orElse lowest allHoldBy holdsBy numberOf met isOver held rowsAt levels levelsFrom levelOf highest apartBy sameList variables differencesOf
+unfolding byRow before stepByRow numberByRow upTo seek tryAll orElse lowest allHoldBy holdsBy numberOf met isOver held rowsAt levels levelsFrom levelOf highest sameList variables
 twice-missed = refl
 
 pub no-by-row : Right byRow → ⊥
@@ -122,22 +127,52 @@ falling (x ∷ l) = falling l ++ (x ∷ [])
 
 unfoldable pub last : Search
 last c table k =
-    seek (breaks (apartBy (repAt table) (differences c)) (c .rows) (repAt table) 65536 k) (falling (lowest (repAt table) 0 (length (c .rows)))) (variables (k .patterns)) []
+    seek (breaks (widerBy c) (c .rows) (repAt table) 65536 k) (falling (lowest (repAt table) 0 (length (c .rows)))) (variables (k .patterns)) []
 
 -- x = x
 abbrev itself : Clause
 itself = record { patterns = variable 0 ∷ []; literals = equal 0 0 ∷ [] }
 
 itself-first : foundBy (stating (constant 1 ∷ constant 2 ∷ [])) (0 ∷ 1 ∷ []) itself ≡ found (0 ∷ [])
-unfolding firstBy seek tryAll orElse lowest breaks allHoldBy holdsBy numbers stages number step numberOf met isOver held rowsAt levels levelsFrom levelOf highest apartBy sameList variables differencesOf
+unfolding firstBy seek tryAll orElse lowest breaks allHoldBy holdsBy numbers stages number step numberOf met isOver held rowsAt levels levelsFrom levelOf highest sameList variables
 itself-first = refl
 
 itself-last : last (stating (constant 1 ∷ constant 2 ∷ [])) (0 ∷ 1 ∷ []) itself ≡ found (1 ∷ [])
-unfolding last falling seek tryAll orElse lowest breaks allHoldBy holdsBy numbers stages number step numberOf met isOver held rowsAt levels levelsFrom levelOf highest apartBy sameList variables differencesOf
+unfolding last falling seek tryAll orElse lowest breaks allHoldBy holdsBy numbers stages number step numberOf met isOver held rowsAt levels levelsFrom levelOf highest sameList variables
 itself-last = refl
 
 pub no-last : Right last → ⊥
 no-last r =
     let e : found (1 ∷ []) ≡ found (0 ∷ []) = sym itself-last ∙ r (stating (constant 1 ∷ constant 2 ∷ [])) (0 ∷ 1 ∷ []) itself ∙ itself-first in
     let z : _≡_ {A = ℕ} 1 0 = cc in
+    omega arith
+
+-- ---- the stated differences alone
+
+unfoldable pub stated : Search
+stated c table k = firstBy (apartBy (repAt table) (differences c)) (c .rows) (repAt table) 65536 k
+
+abbrev images : Context
+images =
+    record {
+      rows = constant 1 ∷ constant 2 ∷ record { symbol = 3; args = 0 ∷ [] } ∷ record { symbol = 3; args = 1 ∷ [] } ∷ [];
+      statements = differ 2 3 ∷ [];
+    }
+
+-- x unequal a
+abbrev besideA : Clause
+besideA = record { patterns = variable 0 ∷ apply 1 [] ∷ []; literals = unequal 0 1 ∷ [] }
+
+a-found : foundBy images (0 ∷ 1 ∷ 2 ∷ 3 ∷ []) besideA ≡ found (1 ∷ [])
+unfolding widerBy followsBy equationsOf differencesOf close rounds round rowsPass rowPass statedPass upto uniteIf agree unite count move total firstBy seek tryAll orElse lowest breaks allHoldBy holdsBy numbers stages number step numberOf met isOver held rowsAt levels levelsFrom levelOf highest sameList variables
+a-found = refl
+
+a-missed : stated images (0 ∷ 1 ∷ 2 ∷ 3 ∷ []) besideA ≡ nothing
+unfolding stated apartBy differencesOf firstBy seek tryAll orElse lowest breaks allHoldBy holdsBy numbers stages number step numberOf met isOver held rowsAt levels levelsFrom levelOf highest sameList variables
+a-missed = refl
+
+pub no-stated : Right stated → ⊥
+no-stated r =
+    let e : nothing ≡ found (1 ∷ []) = sym a-missed ∙ r images (0 ∷ 1 ∷ 2 ∷ 3 ∷ []) besideA ∙ a-found in
+    let z : _≡_ {A = ℕ} 0 1 = cc in
     omega arith

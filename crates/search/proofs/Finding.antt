@@ -3,6 +3,7 @@
 --     finds, finds-none               what it gives is the first breach
 --     nexts, nexts-none               and the first after an assignment
 --     futile-not, futile-by           whether there can be no breach
+--     closes-lent                     the closing and the marks that are lent
 --     finds-one, nexts-one            two answers that meet the contract are equal
 --     answer-found, answer-places     what an answer says was found, and its four places
 -- Assumes nothing.
@@ -19,17 +20,18 @@ use lib.Seq.{getD-take, take-append-seam}
 use Rattle.meaning.specs.Context.{differencesOf}
 use Rattle.meaning.specs.Equality.{repAt}
 use Rattle.meaning.specs.Rules.{Pattern, variables, Clause, Below, Found, found, nothing}
-use Rattle.meaning.specs.ByTable.{apartBy, clashOf}
-use Rattle.meaning.specs.Columns.{rowFrom, rowsFrom, statementsFrom, patternsFrom, literalsFrom, contextFrom, clauseFrom}
+use Rattle.meaning.specs.ByTable.{clashOf}
+use Rattle.meaning.specs.Columns.{rowsFrom, statementsFrom, patternsFrom, literalsFrom, contextFrom, clauseFrom}
 use Rattle.meaning.specs.Values.{levels, rowsAt}
 use Rattle.meaning.specs.Replies.{placesOf, replyOf}
 use Rattle.meaning.proofs.Logic.{false-true}
 use Rattle.meaning.proofs.Lists.{below-append, below-at}
 use Rattle.meaning.proofs.Levels.{length-levels}
 use Rattle.columns.specs.Fit.{Every, NamedAt, Laid, FitContext, FitClause}
-use Rattle.columns.proofs.Built.{build-length, rows-build}
-use Rattle.columns.proofs.Flat.{fit-statements, fit-literals}
-use Rattle.closing.specs.Claims.{clashing}
+use Rattle.columns.proofs.Flat.{fit-literals}
+use Rattle.closing.specs.Claims.{Closes, clashing}
+use Rattle.closing.specs.declared.Answer.{Answer}
+use Rattle.closing.specs.declared.Answer.the-variants.{Closed, Unfit}
 use Rattle.closing.specs.declared.Contradiction.{Contradiction}
 use Rattle.closing.specs.declared.Contradiction.the-variants as C
 use Rattle.plan.specs.declared.Plan.{Plan}
@@ -39,7 +41,11 @@ use Rattle.plan.specs.Plans.{markOf, Plans, Planned as Plan-of}
 use Rattle.plan.specs.Plans as P
 use Rattle.plan.proofs.Levels.{ps-length, variables-few}
 use Rattle.plan.proofs.Order.{up-few}
-use Rattle.plan.proofs.Freed.{freed-first, never-none}
+use Rattle.plan.proofs.Freed.{OfClasses, freed-first, never-none}
+use Rattle.meaning.proofs.FollowingNumbers.{widerBy, widerBy-inside}
+use Rattle.further.specs.Marks.{MarksOf}
+use Rattle.differing.specs.Knowing.{Lends, ClosedBy}
+use Rattle.differing.proofs.Knowing.{rows-are, unlike}
 use Rattle.search.specs.declared.Reply.{Reply}
 use Rattle.values.specs.Reading.{Listed}
 use Rattle.search.specs.Hunting.{stageOf, deadOf, enterFrom, rowsOf, answerOf, Planned, Ready}
@@ -115,8 +121,8 @@ module _ {symbols counts args : List ℕ} {rows : ℕ} {kinds lefts rights : Lis
   abbrev ps : List Pattern
   ps = patternsFrom shapes heads arities subs patterns
 
-  abbrev differs : List ℕ → ℕ → ℕ → Bool
-  differs table = apartBy (repAt table) (differencesOf (statementsFrom kinds lefts rights statements))
+  abbrev differs : ℕ → ℕ → Bool
+  differs = widerBy (contextFrom symbols counts args rows kinds lefts rights statements)
 
   g : FitClause shapes heads arities subs patterns signs firsts seconds literals
   g = plans-fit plans fit .0
@@ -130,12 +136,11 @@ module _ {symbols counts args : List ℕ} {rows : ℕ} {kinds lefts rights : Lis
   few : variables ps ≤ 4
   few = variables-few (p .written .placed)
 
-  pub ready : Ready counts args rows lefts rights statements shapes heads arities subs patterns (plan .order) (plan .ends) firsts seconds literals (plan .variables)
+  pub ready : Ready counts args rows shapes heads arities subs patterns (plan .order) (plan .ends) firsts seconds literals (plan .variables)
   ready =
       record {
         rows-few = f .rows-few;
         laid = laid;
-        sided = record { few = f .statements-few; named = named-wider lefts rights rows 255 statements (f .rows-few) (fit-statements symbols counts args rows kinds lefts rights statements f) };
         rule = record { few = g .patterns-few; written = p .written };
         planned = planned (levels ps) (plan .order) (plan .ends) patterns (length-levels ps ∙ ps-length shapes heads arities subs patterns) (g .patterns-few) (p .arranged);
         tested = record { few = g .literals-few; named = named-wider firsts seconds patterns 64 literals (g .patterns-few) (fit-literals shapes heads arities subs patterns signs firsts seconds literals g) };
@@ -145,15 +150,23 @@ module _ {symbols counts args : List ℕ} {rows : ℕ} {kinds lefts rights : Lis
   pub later-asks : (plan .variables ≡ 0 → ⊥) → (0 < plan .variables) × (plan .variables ≤ 4)
   later-asks n = (omega (arith, n), omega (arith, few, p .counted))
 
+  rows-of : length (rowsFrom symbols counts args rows) ≡ rows
+  unfolding contextFrom
+  rows-of = rows-are symbols counts args rows kinds lefts rights statements
+
+  -- what differs are classes
+  classes : OfClasses 65536 differs
+  classes n m e =
+      let w = widerBy-inside (contextFrom symbols counts args rows kinds lefts rights statements) n m e in
+      let l = rows-are symbols counts args rows kinds lefts rights statements in
+      (omega (arith, w .0, l, f .rows-few), omega (arith, w .1, l, f .rows-few))
+
   module _ (table : List ℕ) where
     -- what the search gives, by the number of rows and of variables
     abbrev huntBy : (ℕ → ℕ → List ℕ → List ℕ) → ℕ → ℕ → Found
     huntBy rowsFor n v =
-        enterFrom (stageOf (rowsFrom symbols counts args rows) (repAt table) ps (plan .order) (plan .ends)) (deadOf (differs table) (plan .levels) (literalsFrom signs firsts seconds literals))
+        enterFrom (stageOf (rowsFrom symbols counts args rows) (repAt table) ps (plan .order) (plan .ends)) (deadOf differs (plan .levels) (literalsFrom signs firsts seconds literals))
         (rowsFor n) v 0 (replicate 4 255) (replicate 64 0)
-
-    rows-are : length (rowsFrom symbols counts args rows) ≡ rows
-    rows-are = rw (rows-build symbols counts args rows) (build-length (rowFrom symbols counts args) rows)
 
     abbrev Finds : Reply → Type 0
     Finds r = FindsIn symbols counts args rows kinds lefts rights statements table shapes heads arities subs patterns signs firsts seconds literals r
@@ -161,14 +174,15 @@ module _ {symbols counts args : List ℕ} {rows : ℕ} {kinds lefts rights : Lis
     abbrev Nexts : List ℕ → Reply → Type 0
     Nexts after r = NextIn symbols counts args rows kinds lefts rights statements table shapes heads arities subs patterns signs firsts seconds literals after r
 
-    module _ (b : Bool) (u : Futile (plan .never) (repAt table) (differencesOf (statementsFrom kinds lefts rights statements)) b) where
+    module _ (closed busy : List ℕ) (lent : ClosedBy symbols counts args rows kinds lefts rights statements closed busy) (b : Bool)
+        (u : Futile (plan .never) (repAt table) (repAt closed) (differencesOf (statementsFrom kinds lefts rights statements)) b) where
       pub finds-none : (r : Reply) → b ≡ true → r ≡ answerOf nothing → Finds r
       unfolding contextFrom clauseFrom
       finds-none r t q =
           let n : never (literalsFrom signs firsts seconds literals) ≡ true = sym (p .refuted) ∙ u .none t .0 in
           let e : foundBy (contextFrom symbols counts args rows kinds lefts rights statements) table (clauseFrom shapes heads arities subs patterns signs firsts seconds literals) ≡ nothing =
-          never-none (rowsFrom symbols counts args rows) (repAt table) 65536 (differencesOf (statementsFrom kinds lefts rights statements))
-          (clauseFrom shapes heads arities subs patterns signs firsts seconds literals) (u .none t .1) n in
+          never-none (rowsFrom symbols counts args rows) (repAt table) 65536 differs (clauseFrom shapes heads arities subs patterns signs firsts seconds literals)
+          (unlike symbols counts args rows kinds lefts rights statements closed busy lent (u .none t .1)) n in
           subst Finds (sym (q ∙ ap answerOf (sym e))) (fits f g)
 
       pub finds : (r : Reply) → r ≡ answerOf (huntBy (λ n. rowsOf (repAt table) n (plan .free) (replicate 4 0)) rows (plan .variables)) → Finds r
@@ -176,17 +190,17 @@ module _ {symbols counts args : List ℕ} {rows : ℕ} {kinds lefts rights : Lis
       finds r q =
           let k : Clause = clauseFrom shapes heads arities subs patterns signs firsts seconds literals in
           let e = hunt-free (rowsFrom symbols counts args rows) (repAt table) ps (g .placed) ps-few (plan .levels) (plan .order) (plan .ends) (p .levelled .same) (p .arranged)
-          (differs table) (literalsFrom signs firsts seconds literals) (plan .free) (freeBy k) (λ v h. ap (λ m. eqb m 1) (p .frees .each v h) ∙ mark-read (freeBy k v)) few in
-          let d = freed-first (rowsFrom symbols counts args rows) (repAt table) 65536 (differencesOf (statementsFrom kinds lefts rights statements)) k (g .placed)
+          differs (literalsFrom signs firsts seconds literals) (plan .free) (freeBy k) (λ v h. ap (λ m. eqb m 1) (p .frees .each v h) ∙ mark-read (freeBy k v)) few in
+          let d = freed-first (rowsFrom symbols counts args rows) (repAt table) 65536 differs k classes (g .placed)
           (rw (ps-length shapes heads arities subs patterns) (g .named)) (u .low) in
           subst Finds
-          (sym (q ∙ ap answerOf (ap₂ (huntBy (λ n. rowsOf (repAt table) n (plan .free) (replicate 4 0))) (sym rows-are) (p .counted)) ∙ ap answerOf (e ∙ d))) (fits f g)
+          (sym (q ∙ ap answerOf (ap₂ (huntBy (λ n. rowsOf (repAt table) n (plan .free) (replicate 4 0))) (sym rows-of) (p .counted)) ∙ ap answerOf (e ∙ d))) (fits f g)
 
     pub nexts-none : (after : List ℕ) (r : Reply) → plan .variables ≡ 0 → r ≡ answerOf nothing → Nexts after r
     unfolding contextFrom clauseFrom
     nexts-none after r z q =
         let e : laterBy (contextFrom symbols counts args rows kinds lefts rights statements) table (clauseFrom shapes heads arities subs patterns signs firsts seconds literals) after ≡ nothing =
-        next-none (differs table) (rowsFrom symbols counts args rows) (repAt table) 65536 (clauseFrom shapes heads arities subs patterns signs firsts seconds literals) after (sym (p .counted) ∙ z) in
+        next-none differs (rowsFrom symbols counts args rows) (repAt table) 65536 (clauseFrom shapes heads arities subs patterns signs firsts seconds literals) after (sym (p .counted) ∙ z) in
         subst (Nexts after) (sym (q ∙ ap answerOf (sym e))) (next-fits f g)
 
     pub nexts : (after from : List ℕ) (r : Reply) → length after ≡ 4 → (plan .variables ≡ 0 → ⊥) → from ≡ nextOf (plan .variables) after
@@ -196,21 +210,29 @@ module _ {symbols counts args : List ℕ} {rows : ℕ} {kinds lefts rights : Lis
         let some : 0 < variables ps = omega (arith, n, p .counted) in
         let next : from ≡ nextOf (variables ps) after = w ∙ ap (λ v. nextOf v after) (p .counted) in
         let e = hunt-next (rowsFrom symbols counts args rows) (repAt table) ps (g .placed) ps-few (plan .levels) (plan .order) (plan .ends) (p .levelled .same) (p .arranged)
-        (differs table) (literalsFrom signs firsts seconds literals) from few some after l (ap length next ∙ next-long (variables ps) after ∙ l)
+        differs (literalsFrom signs firsts seconds literals) from few some after l (ap length next ∙ next-long (variables ps) after ∙ l)
         (ap (take (variables ps)) next ∙ next-bump (variables ps) after l some few) in
         subst (Nexts after)
-        (sym (q ∙ ap answerOf (ap₂ (huntBy (λ m. rowsOf (repAt table) m (replicate 4 0) from)) (sym rows-are) (p .counted)) ∙ ap answerOf e)) (next-fits f g)
+        (sym (q ∙ ap answerOf (ap₂ (huntBy (λ m. rowsOf (repAt table) m (replicate 4 0) from)) (sym rows-of) (p .counted)) ∙ ap answerOf e)) (next-fits f g)
 
 module _ (table : List ℕ) (low : (i : ℕ) → Fits w16 (getD table i 0)) where
   table-low : (i : ℕ) → repAt table i < 65536
   table-low i = omega (arith, low i .fits)
 
-  pub futile-not : (never : Bool) (ds : List (ℕ × ℕ)) → Futile never (repAt table) ds false
-  futile-not never ds = record { low = table-low; none = λ q. false-true q refl }
+  pub futile-not : (never : Bool) (own : ℕ → ℕ) (ds : List (ℕ × ℕ)) → Futile never (repAt table) own ds false
+  futile-not never own ds = record { low = table-low; none = λ q. false-true q refl }
 
-  pub futile-by : (never : Bool) (ds : List (ℕ × ℕ)) (c : Contradiction) (b : Bool) → never ≡ true → clashing c ≡ clashOf (repAt table) ds → b ≡ isClear c → Futile never (repAt table) ds b
-  futile-by never ds (C.First n) b t e q = record { low = table-low; none = λ w. false-true w q }
-  futile-by never ds C.Clear b t e q = record { low = table-low; none = λ w. (t, sym e) }
+  pub futile-by : (never : Bool) (own : ℕ → ℕ) (ds : List (ℕ × ℕ)) (c : Contradiction) (b : Bool) → never ≡ true → clashing c ≡ clashOf own ds → b ≡ isClear c
+      → Futile never (repAt table) own ds b
+  futile-by never own ds (C.First n) b t e q = record { low = table-low; none = λ w. false-true w q }
+  futile-by never own ds C.Clear b t e q = record { low = table-low; none = λ w. (t, sym e) }
+
+-- the closing and the marks that are answered
+pub closes-lent : {symbols counts args : List ℕ} {rows : ℕ} {kinds lefts rights : List ℕ} {statements : ℕ} (a : Answer) {table busy : List ℕ}
+    → Closes symbols counts args rows kinds lefts rights statements a table → MarksOf symbols counts args rows kinds lefts rights statements table busy
+    → Lends symbols counts args rows kinds lefts rights statements table busy
+closes-lent Closed w m = record { closes = λ f. w .1; marks = m .fit }
+closes-lent Unfit w m = record { closes = λ f. absurd (w .0 f); marks = m .fit }
 
 -- ---- two answers
 

@@ -267,14 +267,13 @@ module _ (read : ℕ → List ℕ → List ℕ → List ℕ) (dead : ℕ → Lis
       → enterFrom read dead rowsFor (variables - 0) 0 c v ≡ enterFrom read dead rowsFor variables 0 (replicate 4 255) (replicate 64 0)
   start-enter rowsFor variables c v p q = rw (sub-zero variables, p, q)
 
-pub ready-hunting : {symbols counts args : List ℕ} {rows : ℕ} {lefts rights : List ℕ} {statements : ℕ} {first next shapes heads arities subs : List ℕ} {patterns : ℕ}
+pub ready-hunting : {symbols counts args : List ℕ} {rows : ℕ} {first next shapes heads arities subs : List ℕ} {patterns : ℕ}
     {order ends firsts seconds : List ℕ} {literals variables : ℕ}
-    → Ready counts args rows lefts rights statements shapes heads arities subs patterns order ends firsts seconds literals variables → Chained symbols rows first next
-    → Hunting symbols counts args rows lefts rights statements first next shapes heads arities subs patterns order ends firsts seconds literals variables
+    → Ready counts args rows shapes heads arities subs patterns order ends firsts seconds literals variables → Chained symbols rows first next
+    → Hunting symbols counts args rows first next shapes heads arities subs patterns order ends firsts seconds literals variables
 ready-hunting r c =
     record {
       ledger = record { few = r .rows-few; laid = r .laid; chained = c };
-      sided = r .sided;
       rule = r .rule;
       planned = r .planned;
       tested = r .tested;

@@ -1,7 +1,6 @@
--- Literals and stated differences tried one by one.
---     apart-none, apart-some, stated-equation, stated-difference    the stated differences
---     pass-early, pass-equal, pass-unequal                          one literal
---     all-passed, one-failed                                        all literals
+-- Literals tried one by one.
+--     pass-early, pass-equal, pass-unequal    one literal
+--     all-passed, one-failed                  all literals
 -- Assumes nothing.
 use mathlib.Core.Bool.{Bool, true, false, not, _&&_, _||_}
 use mathlib.Core.List.{List, [], _∷_, _++_}
@@ -11,99 +10,21 @@ use native.Mathlib.Omega.{arith}
 use lib.Dec.{eqb}
 use borrow.Author.Tests.{eqb-true, eqb-false, eq-eqb, ne-eqb}
 use lib.ListN.{getD}
-use Rattle.meaning.specs.Context.{Statement, same, differ, differencesOf}
 use Rattle.meaning.specs.Rules.{Literal}
-use Rattle.meaning.specs.ByTable.{apartBy}
-use Rattle.meaning.specs.Columns.{statementOf, statementsFrom, literalOf, literalsFrom}
+use Rattle.meaning.specs.Columns.{literalOf, literalsFrom}
 use Rattle.meaning.specs.FirstBy.{holdsBy}
 use Rattle.meaning.proofs.Pruned.{fails}
 use Rattle.meaning.proofs.Due.{due}
-use Rattle.columns.proofs.Built.{statementAt, literalAt}
-use Rattle.search.specs.Testing.{eitherWay, statedOf, passesOf}
-
-pub both-other : (n p : ℕ) (b : Bool) → (n ≡ p → ⊥) → false ≡ (eqb n p && b)
-both-other n p b h = rw (ne-eqb n p h)
-
-pub both-same : (n p : ℕ) (b : Bool) → n ≡ p → b ≡ (eqb n p && b)
-both-same n p b h = rw (eq-eqb n p h)
-
-pub either-first : (a b r : Bool) → r ≡ a → r ≡ true → true ≡ (a || b)
-either-first a b r e t = rw (← e, t)
-
-pub either-second : (a b r s : Bool) → r ≡ a → r ≡ false → s ≡ b → s ≡ (a || b)
-either-second a b r s e f q = rw (← e, f) q
-
--- ---- stated differences
-
-differences-append : (l m : List Statement) → differencesOf (l ++ m) ≡ differencesOf l ++ differencesOf m
-unfolding differencesOf
-differences-append [] m = refl
-differences-append (same p q ∷ l) m = differences-append l m
-differences-append (differ p q ∷ l) m = ap ((p, q) ∷_) (differences-append l m)
+use Rattle.columns.proofs.Built.{literalAt}
+use Rattle.search.specs.Testing.{passesOf}
 
 or-assoc : (a b c : Bool) → (a || (b || c)) ≡ ((a || b) || c)
 or-assoc true b c = refl
 or-assoc false b c = refl
 
-apart-append : (rep : ℕ → ℕ) (l m : List (ℕ × ℕ)) (x y : ℕ) → apartBy rep (l ++ m) x y ≡ (apartBy rep l x y || apartBy rep m x y)
-unfolding apartBy
-apart-append rep [] m x y = refl
-apart-append rep (d ∷ l) m x y =
-    ap (eitherWay (rep (d .0)) (rep (d .1)) x y ||_) (apart-append rep l m x y)
-    ∙ or-assoc (eitherWay (rep (d .0)) (rep (d .1)) x y) (apartBy rep l x y) (apartBy rep m x y)
-
 or-false : (a : Bool) → (a || false) ≡ a
 or-false true = refl
 or-false false = refl
-
-module _ (kinds lefts rights : List ℕ) (rep : ℕ → ℕ) (x y : ℕ) where
-  abbrev apartFrom : ℕ → Bool
-  apartFrom m = apartBy rep (differencesOf (statementsFrom kinds lefts rights m)) x y
-
-  stated-one : (j : ℕ) → apartBy rep (differencesOf (statementAt kinds lefts rights j ∷ [])) x y ≡ statedOf kinds lefts rights rep x y j
-  unfolding statementOf statedOf apartBy differencesOf
-  stated-one j = go (eqb (getD kinds j 0) 2) refl
-    where
-      go : (b : Bool) → eqb (getD kinds j 0) 2 ≡ b → apartBy rep (differencesOf (statementAt kinds lefts rights j ∷ [])) x y ≡ statedOf kinds lefts rights rep x y j
-      go true e = rw (e, statementOf, statedOf)
-      go false e = rw (e, statementOf, statedOf) (or-false (eitherWay (rep (getD lefts j 0)) (rep (getD rights j 0)) x y))
-
-  apart-next : (m : ℕ) → apartFrom (suc m) ≡ (apartFrom m || statedOf kinds lefts rights rep x y m)
-  unfolding statementsFrom
-  apart-next m =
-      ap (λ l. apartBy rep l x y) (differences-append (statementsFrom kinds lefts rights m) (statementAt kinds lefts rights m ∷ []))
-      ∙ apart-append rep (differencesOf (statementsFrom kinds lefts rights m)) (differencesOf (statementAt kinds lefts rights m ∷ [])) x y
-      ∙ ap (apartFrom m ||_) (stated-one m)
-
-  pub apart-none : (m : ℕ) → ((j : ℕ) → j < m → statedOf kinds lefts rights rep x y j ≡ false) → false ≡ apartFrom m
-  unfolding statementsFrom differencesOf apartBy
-  apart-none zero h = refl
-  apart-none (suc m) h = sym (apart-next m ∙ ap₂ _||_ (sym (apart-none m (λ j l. h j (omega arith)))) (h m (omega arith)))
-
-  pub apart-some : (m j : ℕ) → j < m → statedOf kinds lefts rights rep x y j ≡ true → true ≡ apartFrom m
-  apart-some zero j h e = absurd (omega arith)
-  apart-some (suc m) j h e = go (eqb j m) refl (λ l. apart-some m j l e)
-    where
-      or-true : (a : Bool) → (a || true) ≡ true
-      or-true true = refl
-      or-true false = refl
-
-      go : (b : Bool) → eqb j m ≡ b → (j < m → true ≡ apartFrom m) → true ≡ apartFrom (suc m)
-      go true q ih =
-          sym (apart-next m ∙ ap (apartFrom m ||_) (ap (statedOf kinds lefts rights rep x y) (sym (eqb-true j m q)) ∙ e) ∙ or-true (apartFrom m))
-      go false q ih =
-          let l : j < m = omega (arith, eqb-false j m q) in
-          sym (apart-next m ∙ ap (_|| statedOf kinds lefts rights rep x y m) (sym (ih l)))
-
-  pub stated-equation : (j : ℕ) → getD kinds j 0 ≡ 2 → false ≡ statedOf kinds lefts rights rep x y j
-  unfolding statedOf
-  stated-equation j e = rw (eq-eqb (getD kinds j 0) 2 e, statedOf)
-
-  pub stated-difference : (j a b p q : ℕ) (r : Bool) → (getD kinds j 0 ≡ 2 → ⊥) → a ≡ getD lefts j 0 → b ≡ getD rights j 0 → p ≡ rep a → q ≡ rep b
-      → r ≡ eitherWay p q x y → r ≡ statedOf kinds lefts rights rep x y j
-  unfolding statedOf
-  stated-difference j a b p q r n ea eb ep eq e =
-      rw (ne-eqb (getD kinds j 0) 2 n, statedOf) (e ∙ ap₂ (λ u v. eitherWay u v x y) (ep ∙ ap rep ea) (eq ∙ ap rep eb))
 
 -- ---- one literal
 

@@ -1,5 +1,5 @@
 -- What `find_in` and `next_in` answer.
---     foundBy, laterBy    the first breach by a table, and the first after an assignment
+--     foundBy, laterBy    the first breach by a table, and the first after an assignment; what differs does so in the wider sense, whatever the table
 --     unfitReply          the answer to columns that are not well-formed
 --     FindsIn, NextIn     the answers to any columns and any table, and any assignment
 --     nextOf              the assignment of n rows that comes next after one
@@ -12,11 +12,12 @@ use mathlib.Core.List.{List, [], _∷_}
 use mathlib.Core.Path.{_≡_}
 use Prim.Native.Nat.{ℕ, _+_, _-_, _<_}
 use lib.ListN.{getD, set, take}
-use Rattle.meaning.specs.Context.{Context, differences}
+use Rattle.meaning.specs.Context.{Context}
 use Rattle.meaning.specs.Equality.{repAt}
 use Rattle.meaning.specs.Rules.{Clause, Found, found, nothing}
-use Rattle.meaning.specs.ByTable.{apartBy, clear, clashOf}
+use Rattle.meaning.specs.ByTable.{clear, clashOf}
 use Rattle.meaning.specs.Columns.{contextFrom, clauseFrom}
+use Rattle.meaning.proofs.FollowingNumbers.{widerBy}
 use Rattle.meaning.specs.FirstBy.{firstBy}
 use Rattle.columns.specs.Fit.{FitContext, FitClause}
 use Rattle.closing.specs.declared.Contradiction.{Contradiction}
@@ -28,10 +29,10 @@ use Rattle.meaning.specs.Next.{nextBy}
 use Rattle.search.specs.Hunting.{answerOf}
 
 abbrev pub foundBy : Context → List ℕ → Clause → Found
-foundBy c table k = firstBy (apartBy (repAt table) (differences c)) (c .rows) (repAt table) 65536 k
+foundBy c table k = firstBy (widerBy c) (c .rows) (repAt table) 65536 k
 
 abbrev pub laterBy : Context → List ℕ → Clause → List ℕ → Found
-laterBy c table k after = nextBy (apartBy (repAt table) (differences c)) (c .rows) (repAt table) 65536 k after
+laterBy c table k after = nextBy (widerBy c) (c .rows) (repAt table) 65536 k after
 
 abbrev pub unfitReply : Reply
 unfitReply = record { kind = Unfit; places = 255 ∷ 255 ∷ 255 ∷ 255 ∷ [] }
@@ -43,10 +44,10 @@ abbrev pub isClear : Contradiction → Bool
 isClear (C.First n) = false
 isClear C.Clear = true
 
--- a table of two-byte entries; and where the answer is true, some literal is p unequal p and no stated difference has one representative for its sides
-pub record Futile (never : Bool) (rep : ℕ → ℕ) (ds : List (ℕ × ℕ)) (b : Bool) : Type 0 where
+-- a table of two-byte entries; and where the answer is true, some literal is p unequal p and no stated difference has one representative by the closing
+pub record Futile (never : Bool) (rep own : ℕ → ℕ) (ds : List (ℕ × ℕ)) (b : Bool) : Type 0 where
   pub low : (i : ℕ) → rep i < 65536
-  pub none : b ≡ true → (never ≡ true) × (clashOf rep ds ≡ clear)
+  pub none : b ≡ true → (never ≡ true) × (clashOf own ds ≡ clear)
 
 abbrev pub foundOf : Kind → List ℕ → Found
 foundOf (Breach n) places = found (take n places)

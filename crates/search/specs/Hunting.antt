@@ -25,7 +25,7 @@ use Rattle.search.specs.declared.Kind.the-variants.{Breach, Clear, Unfit
 use Rattle.search.specs.declared.Reply.{Reply}
 use Rattle.values.specs.Chains.{LedgerFit}
 use Rattle.values.specs.Reading.{Listed, readOf}
-use Rattle.search.specs.Testing.{Sided, Tested}
+use Rattle.search.specs.Testing.{Tested}
 
 unfoldable pub stageOf : List Row → (ℕ → ℕ) → List Pattern → List ℕ → List ℕ → ℕ → List ℕ → List ℕ → List ℕ
 stageOf rows rep ps order ends k chosen values = readOf rows rep ps order chosen values (getD ends k 0) (getD ends (suc k) 0)
@@ -89,20 +89,18 @@ pub record Planned (order ends : List ℕ) (patterns : ℕ) : Type 0 where
   pub rises : (k : ℕ) → k < 5 → getD ends k 0 ≤ getD ends (suc k) 0
 
 -- before the rows are chained by their symbols
-pub record Ready (counts args : List ℕ) (rows : ℕ) (lefts rights : List ℕ) (statements : ℕ) (shapes heads arities subs : List ℕ) (patterns : ℕ)
+pub record Ready (counts args : List ℕ) (rows : ℕ) (shapes heads arities subs : List ℕ) (patterns : ℕ)
     (order ends firsts seconds : List ℕ) (literals variables : ℕ) : Type 0 where
   pub rows-few : rows ≤ 255
   pub laid : Laid counts args rows
-  pub sided : Sided lefts rights statements
   pub rule : RuleFit shapes heads arities subs patterns
   pub planned : Planned order ends patterns
   pub tested : Tested firsts seconds literals
   pub few : variables ≤ 4
 
-pub record Hunting (symbols counts args : List ℕ) (rows : ℕ) (lefts rights : List ℕ) (statements : ℕ) (first next shapes heads arities subs : List ℕ) (patterns : ℕ)
+pub record Hunting (symbols counts args : List ℕ) (rows : ℕ) (first next shapes heads arities subs : List ℕ) (patterns : ℕ)
     (order ends firsts seconds : List ℕ) (literals variables : ℕ) : Type 0 where
   pub ledger : LedgerFit symbols counts args rows first next
-  pub sided : Sided lefts rights statements
   pub rule : RuleFit shapes heads arities subs patterns
   pub planned : Planned order ends patterns
   pub tested : Tested firsts seconds literals

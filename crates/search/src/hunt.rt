@@ -5,11 +5,11 @@ ghost use mathlib.Core.List.{List};
 ghost use Prim.Native.Nat.{_+_, _-_, _≤_, _<_};
 ghost use lib.Dec.{eqb};
 ghost use lib.ListN.{set, take, replicate};
-ghost use Rattle.meaning.specs.Context.{differencesOf};
 ghost use Rattle.meaning.specs.Rules.{Found, found, nothing};
 ghost use Rattle.meaning.specs.Equality.{repAt};
-ghost use Rattle.meaning.specs.ByTable.{apartBy};
-ghost use Rattle.meaning.specs.Columns.{rowsFrom, statementsFrom, patternsFrom, literalsFrom};
+ghost use Rattle.meaning.specs.Columns.{rowsFrom, patternsFrom, literalsFrom, contextFrom};
+ghost use Rattle.meaning.proofs.FollowingNumbers.{widerBy};
+ghost use Rattle.differing.specs.Knowing.{ClosedBy, Knows};
 ghost use Rattle.search.specs.Hunting.{stageOf, deadOf, startOf, rowsOf, huntOf, enterFrom, NextOwn, answerOf, isBreach, Ready, Hunting, Chosen};
 use crate::Kind;
 use crate::Reply;
@@ -121,6 +121,9 @@ fn enter<'a>(
     rights: &'a [u16; 510],
     statements: usize,
     table: &'a [u16; 255],
+    closed: &'a [u16; 255],
+    busy: &'a [u8; 255],
+    known: &mut [u8; 65025],
     first: &'a [u16; 256],
     next: &'a [u16; 255],
     shapes: &'a [u8; 64],
@@ -142,9 +145,12 @@ fn enter<'a>(
     chosen: [u16; 4],
     values: &'a [u32; 64],
 ) -> Reply
-    requires { ⌜ Hunting (now symbols) (now counts) (now args) rows (now lefts) (now rights) statements (now first) (now next) (now shapes) (now heads) (now arities) (now subs) patterns (now order) (now ends) (now firsts) (now seconds) literals variables ⌝ }
+    requires { ⌜ Hunting (now symbols) (now counts) (now args) rows (now first) (now next) (now shapes) (now heads) (now arities) (now subs) patterns (now order) (now ends) (now firsts) (now seconds) literals variables ⌝ }
     requires { ⌜ (k ≤ variables) × Chosen k chosen ⌝ }
-    ensures { λ r. ⌜ r ≡ answerOf (enterFrom (stageOf (rowsFrom (now (symbols .entry)) (now (counts .entry)) (now (args .entry)) rows) (repAt (now (table .entry))) (patternsFrom (now (shapes .entry)) (now (heads .entry)) (now (arities .entry)) (now (subs .entry)) patterns) (now (order .entry)) (now (ends .entry))) (deadOf (apartBy (repAt (now (table .entry))) (differencesOf (statementsFrom (now (kinds .entry)) (now (lefts .entry)) (now (rights .entry)) statements))) (now (levels .entry)) (literalsFrom (now (signs .entry)) (now (firsts .entry)) (now (seconds .entry)) literals)) (rowsOf (repAt (now (table .entry))) rows free from) (variables - k) k chosen (now (values .entry))) ⌝ }
+    requires { ⌜ ClosedBy (now symbols) (now counts) (now args) rows (now kinds) (now lefts) (now rights) statements (now closed) (now busy) ⌝ }
+    requires { ⌜ Knows (contextFrom (now symbols) (now counts) (now args) rows (now kinds) (now lefts) (now rights) statements) (now known) ⌝ }
+    ensures { λ r. ⌜ r ≡ answerOf (enterFrom (stageOf (rowsFrom (now (symbols .entry)) (now (counts .entry)) (now (args .entry)) rows) (repAt (now (table .entry))) (patternsFrom (now (shapes .entry)) (now (heads .entry)) (now (arities .entry)) (now (subs .entry)) patterns) (now (order .entry)) (now (ends .entry))) (deadOf (widerBy (contextFrom (now (symbols .entry)) (now (counts .entry)) (now (args .entry)) rows (now (kinds .entry)) (now (lefts .entry)) (now (rights .entry)) statements)) (now (levels .entry)) (literalsFrom (now (signs .entry)) (now (firsts .entry)) (now (seconds .entry)) literals)) (rowsOf (repAt (now (table .entry))) rows free from) (variables - k) k chosen (now (values .entry))) ⌝ }
+    ensures { λ _. ⌜ Knows (contextFrom (now (symbols .entry)) (now (counts .entry)) (now (args .entry)) rows (now (kinds .entry)) (now (lefts .entry)) (now (rights .entry)) statements) (now (known .exit)) ⌝ }
 {
     let j = wide8(k);
     let v = values::value::read(
@@ -167,11 +173,17 @@ fn enter<'a>(
         values,
     );
     if !crate::literal::all_pass(
+        symbols,
+        counts,
+        args,
+        rows,
         kinds,
         lefts,
         rights,
         statements,
-        table,
+        closed,
+        busy,
+        known,
         levels,
         signs,
         firsts,
@@ -192,6 +204,9 @@ fn enter<'a>(
         rights,
         statements,
         table,
+        closed,
+        busy,
+        known,
         first,
         next,
         shapes,
@@ -226,6 +241,9 @@ fn seek<'a>(
     rights: &'a [u16; 510],
     statements: usize,
     table: &'a [u16; 255],
+    closed: &'a [u16; 255],
+    busy: &'a [u8; 255],
+    known: &mut [u8; 65025],
     first: &'a [u16; 256],
     next: &'a [u16; 255],
     shapes: &'a [u8; 64],
@@ -247,9 +265,12 @@ fn seek<'a>(
     chosen: [u16; 4],
     values: &'a [u32; 64],
 ) -> Reply
-    requires { ⌜ Hunting (now symbols) (now counts) (now args) rows (now lefts) (now rights) statements (now first) (now next) (now shapes) (now heads) (now arities) (now subs) patterns (now order) (now ends) (now firsts) (now seconds) literals variables ⌝ }
+    requires { ⌜ Hunting (now symbols) (now counts) (now args) rows (now first) (now next) (now shapes) (now heads) (now arities) (now subs) patterns (now order) (now ends) (now firsts) (now seconds) literals variables ⌝ }
     requires { ⌜ (k ≤ variables) × Chosen k chosen ⌝ }
-    ensures { λ r. ⌜ r ≡ answerOf (huntOf (stageOf (rowsFrom (now (symbols .entry)) (now (counts .entry)) (now (args .entry)) rows) (repAt (now (table .entry))) (patternsFrom (now (shapes .entry)) (now (heads .entry)) (now (arities .entry)) (now (subs .entry)) patterns) (now (order .entry)) (now (ends .entry))) (deadOf (apartBy (repAt (now (table .entry))) (differencesOf (statementsFrom (now (kinds .entry)) (now (lefts .entry)) (now (rights .entry)) statements))) (now (levels .entry)) (literalsFrom (now (signs .entry)) (now (firsts .entry)) (now (seconds .entry)) literals)) (rowsOf (repAt (now (table .entry))) rows free from) (variables - k) k chosen (now (values .entry))) ⌝ }
+    requires { ⌜ ClosedBy (now symbols) (now counts) (now args) rows (now kinds) (now lefts) (now rights) statements (now closed) (now busy) ⌝ }
+    requires { ⌜ Knows (contextFrom (now symbols) (now counts) (now args) rows (now kinds) (now lefts) (now rights) statements) (now known) ⌝ }
+    ensures { λ r. ⌜ r ≡ answerOf (huntOf (stageOf (rowsFrom (now (symbols .entry)) (now (counts .entry)) (now (args .entry)) rows) (repAt (now (table .entry))) (patternsFrom (now (shapes .entry)) (now (heads .entry)) (now (arities .entry)) (now (subs .entry)) patterns) (now (order .entry)) (now (ends .entry))) (deadOf (widerBy (contextFrom (now (symbols .entry)) (now (counts .entry)) (now (args .entry)) rows (now (kinds .entry)) (now (lefts .entry)) (now (rights .entry)) statements)) (now (levels .entry)) (literalsFrom (now (signs .entry)) (now (firsts .entry)) (now (seconds .entry)) literals)) (rowsOf (repAt (now (table .entry))) rows free from) (variables - k) k chosen (now (values .entry))) ⌝ }
+    ensures { λ _. ⌜ Knows (contextFrom (now (symbols .entry)) (now (counts .entry)) (now (args .entry)) rows (now (kinds .entry)) (now (lefts .entry)) (now (rights .entry)) statements) (now (known .exit)) ⌝ }
 {
     if variables <= k {
         return breach(k, chosen);
@@ -267,6 +288,9 @@ fn seek<'a>(
             rights,
             statements,
             table,
+            closed,
+            busy,
+            known,
             first,
             next,
             shapes,
@@ -307,6 +331,9 @@ pub(crate) fn start<'a>(
     rights: &'a [u16; 510],
     statements: usize,
     table: &'a [u16; 255],
+    closed: &'a [u16; 255],
+    busy: &'a [u8; 255],
+    known: &mut [u8; 65025],
     shapes: &'a [u8; 64],
     heads: &'a [u16; 64],
     arities: &'a [u8; 64],
@@ -323,8 +350,11 @@ pub(crate) fn start<'a>(
     free: [u8; 4],
     from: [u32; 4],
 ) -> Reply
-    requires { ⌜ Ready (now counts) (now args) rows (now lefts) (now rights) statements (now shapes) (now heads) (now arities) (now subs) patterns (now order) (now ends) (now firsts) (now seconds) literals variables ⌝ }
-    ensures { λ r. ⌜ r ≡ answerOf (enterFrom (stageOf (rowsFrom (now (symbols .entry)) (now (counts .entry)) (now (args .entry)) rows) (repAt (now (table .entry))) (patternsFrom (now (shapes .entry)) (now (heads .entry)) (now (arities .entry)) (now (subs .entry)) patterns) (now (order .entry)) (now (ends .entry))) (deadOf (apartBy (repAt (now (table .entry))) (differencesOf (statementsFrom (now (kinds .entry)) (now (lefts .entry)) (now (rights .entry)) statements))) (now (levels .entry)) (literalsFrom (now (signs .entry)) (now (firsts .entry)) (now (seconds .entry)) literals)) (rowsOf (repAt (now (table .entry))) rows free from) variables 0 (replicate 4 255) (replicate 64 0)) ⌝ }
+    requires { ⌜ Ready (now counts) (now args) rows (now shapes) (now heads) (now arities) (now subs) patterns (now order) (now ends) (now firsts) (now seconds) literals variables ⌝ }
+    requires { ⌜ ClosedBy (now symbols) (now counts) (now args) rows (now kinds) (now lefts) (now rights) statements (now closed) (now busy) ⌝ }
+    requires { ⌜ Knows (contextFrom (now symbols) (now counts) (now args) rows (now kinds) (now lefts) (now rights) statements) (now known) ⌝ }
+    ensures { λ r. ⌜ r ≡ answerOf (enterFrom (stageOf (rowsFrom (now (symbols .entry)) (now (counts .entry)) (now (args .entry)) rows) (repAt (now (table .entry))) (patternsFrom (now (shapes .entry)) (now (heads .entry)) (now (arities .entry)) (now (subs .entry)) patterns) (now (order .entry)) (now (ends .entry))) (deadOf (widerBy (contextFrom (now (symbols .entry)) (now (counts .entry)) (now (args .entry)) rows (now (kinds .entry)) (now (lefts .entry)) (now (rights .entry)) statements)) (now (levels .entry)) (literalsFrom (now (signs .entry)) (now (firsts .entry)) (now (seconds .entry)) literals)) (rowsOf (repAt (now (table .entry))) rows free from) variables 0 (replicate 4 255) (replicate 64 0)) ⌝ }
+    ensures { λ _. ⌜ Knows (contextFrom (now (symbols .entry)) (now (counts .entry)) (now (args .entry)) rows (now (kinds .entry)) (now (lefts .entry)) (now (rights .entry)) statements) (now (known .exit)) ⌝ }
 {
     let chains = values::chain::link(symbols, rows);
     let values = unread();
@@ -338,6 +368,9 @@ pub(crate) fn start<'a>(
         rights,
         statements,
         table,
+        closed,
+        busy,
+        known,
         &chains.first,
         &chains.next,
         shapes,

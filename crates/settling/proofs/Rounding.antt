@@ -26,7 +26,7 @@ use Rattle.numbering.specs.Keys.{Keyed}
 use Rattle.numbering.proofs.Keying.{rows-at}
 use Rattle.grounding.specs.Draft.{countIn, Wrote, pushed}
 use Rattle.grounding.specs.Classes.{labelIn, State, Left, upto, same, joined}
-use Rattle.grounding.specs.Rounds.{startOne, statedPair, stateOne, stated, argsFrom, oneLabel, oneArgument, sameLabels, argued, congruentBy, congruence, united, pairedApart, paired, rowPassed, passed, rounds}
+use Rattle.grounding.specs.Rounds.{startOne, pairJoined, statedPair, stateOne, stated, argsFrom, oneLabel, oneArgument, sameLabels, argued, congruentBy, congruence, united, pairedApart, paired, rowPassed, passed, rounds}
 use Rattle.settling.proofs.Classing.{Through, through-start, through-next, through-done, left-is, wrote-is}
 
 -- ---- the start
@@ -36,23 +36,25 @@ pub start-one : (ns : List ℕ) (x : ℕ) (cells table : List ℕ) {after : List
 unfolding startOne
 start-one ns x cells table e = record { column = e .column; classes = ap (set (set table x (getD ns x 0)) (319 + x)) (e .step) }
 
+-- ---- two entries joined by a step
+
+module _ (n kind x y number : ℕ) (cells table : List ℕ) where
+  pub pair-none : {p q : ℕ} → p ≡ labelIn table x → q ≡ labelIn table y → p ≡ q → Left cells table (pairJoined n kind x y number (record { cells = cells; table = table }))
+  unfolding pairJoined
+  pair-none ep eq e = rw (eq-eqb (labelIn table x) (labelIn table y) (sym ep ∙ e ∙ eq), pairJoined) (record { column = refl; classes = refl })
+
+  pub pair-joined : {mid cells′ table′ : List ℕ} {p q w : ℕ} → p ≡ labelIn table x → q ≡ labelIn table y → (p ≡ q → ⊥) → Wrote mid w (pushed cells kind x y number 0 0 0)
+      → Left cells′ table′ (joined n w x y (record { cells = mid; table = table }))
+      → Left cells′ table′ (pairJoined n kind x y number (record { cells = cells; table = table }))
+  unfolding pairJoined
+  pair-joined ep eq d e f =
+      rw (ne-eqb (labelIn table x) (labelIn table y) (λ z. d (ep ∙ z ∙ sym eq)), pairJoined, wrote-is (pushed cells kind x y number 0 0 0) e) f
+
 -- ---- stated equations
-
-module _ (n l r i : ℕ) (cells table : List ℕ) where
-  pub state-none : {p q : ℕ} → p ≡ labelIn table l → q ≡ labelIn table r → p ≡ q → Left cells table (statedPair n l r i (record { cells = cells; table = table }))
-  unfolding statedPair
-  state-none ep eq e = rw (eq-eqb (labelIn table l) (labelIn table r) (sym ep ∙ e ∙ eq), statedPair) (record { column = refl; classes = refl })
-
-  pub state-joined : {mid cells′ table′ : List ℕ} {p q w : ℕ} → p ≡ labelIn table l → q ≡ labelIn table r → (p ≡ q → ⊥) → Wrote mid w (pushed cells 1 l r (i + 1) 0 0 0)
-      → Left cells′ table′ (joined n w l r (record { cells = mid; table = table }))
-      → Left cells′ table′ (statedPair n l r i (record { cells = cells; table = table }))
-  unfolding statedPair
-  state-joined ep eq d e f =
-      rw (ne-eqb (labelIn table l) (labelIn table r) (λ z. d (ep ∙ z ∙ sym eq)), statedPair, wrote-is (pushed cells 1 l r (i + 1) 0 0 0) e) f
 
 -- equation i by columns
 abbrev pub stateBy : ℕ → List ℕ → List ℕ → ℕ → State → State
-stateBy n lefts rights i state = statedPair n (getD lefts i 0) (getD rights i 0) i state
+stateBy n lefts rights i state = pairJoined n 1 (getD lefts i 0) (getD rights i 0) (i + 1) state
 
 pub length-pairs : (lefts rights : List ℕ) (n : ℕ) → length (pairsFrom lefts rights n) ≡ n
 unfolding pairsFrom
@@ -81,12 +83,12 @@ upto-same (suc n) f g w s = w n (omega arith) (upto n f s) ∙ ap (g n) (upto-sa
 
 pub state-done : (n : ℕ) (lefts rights : List ℕ) (count : ℕ) (start : State) {cells table : List ℕ} {k : ℕ} → Through (stateBy n lefts rights) count start cells table k → count ≤ k
     → Left cells table (stated n (pairsFrom lefts rights count) start)
-unfolding stated stateOne
+unfolding stated stateOne statedPair
 state-done n lefts rights count start {cells} {table} w h =
     rw (length-pairs lefts rights count)
     (subst (Left cells table)
     (upto-same count (stateBy n lefts rights) (stateOne n (pairsFrom lefts rights count))
-    (λ i l s. ap₂ (λ (x y : ℕ). statedPair n x y i s) (sym (pairs-left lefts rights count i l)) (sym (pairs-right lefts rights count i l)))
+    (λ i l s. ap₂ (λ (x y : ℕ). pairJoined n 1 x y (i + 1) s) (sym (pairs-left lefts rights count i l)) (sym (pairs-right lefts rights count i l)))
     start)
     (through-done w h))
 
@@ -338,7 +340,7 @@ rounding-done {n} {ks} {start} {cells} {table} {left} w h =
     left-by (rounds n ks 8192 start)
     (w .so ∙ ap (λ (i : ℕ). rounds n ks i (record { cells = cells; table = table })) z ∙ rounds-none n ks (record { cells = cells; table = table }))
 
-pub ruleset starting = (needs, start-one, through-start, through-next, through-done, state-none, state-joined, state-done)
+pub ruleset starting = (needs, start-one, through-start, through-next, through-done, pair-none, pair-joined, state-done)
 
 pub ruleset arguing = (needs, argued-same, argued-none)
 

@@ -3,6 +3,7 @@ pub mod classes;
 pub mod draft;
 pub mod rounds;
 
+use rounds::join_pair;
 use rounds::rounds;
 use rounds::start;
 use rounds::state_all;
@@ -12,6 +13,7 @@ ghost use Rattle.meaning.specs.GroundColumns.{pairsFrom};
 ghost use Rattle.numbering.specs.Keys.{Keyed};
 ghost use Rattle.grounding.specs.Classes.{Left};
 ghost use Rattle.grounding.specs.Rounds.{blank, started, stated, rounds as roundsBy};
+ghost use Rattle.grounding.specs.Concluding.{widened};
 
 // Closed classes of n entries, with a step for each entry's label.
 pub fn settle<'a>(
@@ -34,5 +36,24 @@ pub fn settle<'a>(
 {
     start(cells, table, numbers, n);
     state_all(cells, table, n, lefts, rights, equations);
+    rounds(cells, table, symbols, counts, args, n);
+}
+
+// The classes of entries x and y become one by an added equation, and the classes are closed again.
+pub fn widen<'a>(
+    cells: &mut [u16; 114689],
+    table: &mut [u16; 638],
+    symbols: &'a [u16; 319],
+    counts: &'a [u8; 319],
+    args: &'a [u16; 1276],
+    n: usize,
+    x: u16,
+    y: u16,
+)
+    requires { ⌜ n ≤ 319 ⌝ }
+    requires { ⌜ Keyed (now counts) (now args) n ⌝ }
+    ensures { λ _. ⌜ Left (now (cells .exit)) (now (table .exit)) (widened n (rowsFrom (now (symbols .entry)) (now (counts .entry)) (now (args .entry)) n) x y (record { cells = now (cells .entry); table = now (table .entry) })) ⌝ }
+{
+    join_pair(cells, table, n, 6, x, y, 0);
     rounds(cells, table, symbols, counts, args, n);
 }

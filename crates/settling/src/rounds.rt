@@ -13,7 +13,7 @@ ghost use Rattle.meaning.proofs.Closing.{agree as agreed};
 ghost use Rattle.numbering.specs.Keys.{Keyed};
 ghost use Rattle.grounding.specs.Draft.{Wrote};
 ghost use Rattle.grounding.specs.Classes.{Left, upto};
-ghost use Rattle.grounding.specs.Rounds.{startOne, statedPair, stated, argsFrom, oneLabel, oneArgument, sameLabels, argued, congruentBy, congruence as congruent, united, pairedApart, paired, rowPassed, passed, rounds as roundsBy};
+ghost use Rattle.grounding.specs.Rounds.{startOne, pairJoined, stated, argsFrom, oneLabel, oneArgument, sameLabels, argued, congruentBy, congruence as congruent, united, pairedApart, paired, rowPassed, passed, rounds as roundsBy};
 
 // Entry x gets a reflexive step, and its number for a label.
 fn start_one(cells: &mut [u16; 114689], table: &mut [u16; 638], numbers: &[u16; 319], x: usize)
@@ -38,17 +38,24 @@ pub fn start(cells: &mut [u16; 114689], table: &mut [u16; 638], numbers: &[u16; 
     }
 }
 
-// The sides of equation i, counted from 0, are joined.
-fn state(cells: &mut [u16; 114689], table: &mut [u16; 638], n: usize, l: u16, r: u16, i: usize)
+// The classes of x and y are joined by a step of a kind, with one number, where their labels differ.
+pub fn join_pair(
+    cells: &mut [u16; 114689],
+    table: &mut [u16; 638],
+    n: usize,
+    kind: u16,
+    x: u16,
+    y: u16,
+    number: u16,
+)
     requires { ⌜ n ≤ 319 ⌝ }
-    requires { ⌜ i < 510 ⌝ }
-    ensures { λ _. ⌜ Left (now (cells .exit)) (now (table .exit)) (statedPair n l r i (record { cells = now (cells .entry); table = now (table .entry) })) ⌝ }
+    ensures { λ _. ⌜ Left (now (cells .exit)) (now (table .exit)) (pairJoined n kind x y number (record { cells = now (cells .entry); table = now (table .entry) })) ⌝ }
 {
-    if label(table, l) == label(table, r) {
+    if label(table, x) == label(table, y) {
         return;
     }
-    let w = push(cells, 1, l, r, (i + 1) as u16, 0, 0, 0);
-    join(cells, table, n, w, l, r);
+    let w = push(cells, kind, x, y, number, 0, 0, 0);
+    join(cells, table, n, w, x, y);
 }
 
 // The sides of each stated equation are joined.
@@ -66,7 +73,7 @@ pub fn state_all<'a>(
 {
     let mut i: usize = 0;
     while i < count {
-        state(cells, table, n, lefts[i], rights[i], i);
+        join_pair(cells, table, n, 1, lefts[i], rights[i], (i + 1) as u16);
         i += 1;
     }
 }

@@ -1,18 +1,17 @@
 -- Marks, as the code makes them.
---     Back, Forth   a loop from the last step to the first; over the conclusions
---     mine          what the functions of `sweeping` leave to show
+--     Back   a loop from the last step to the first
+--     mine   what the functions of `sweeping` leave to show
 -- Assumes nothing.
 use mathlib.Core.Bool.{true, false}
 use mathlib.Core.List.{List}
 use mathlib.Core.Path.{_≡_, refl, ap, sym, _∙_, subst}
 use Prim.Native.Nat.{ℕ, suc, _+_, _-_, _*_, _≤_, _<_}
-use native.Mathlib.Numerals.{add-one}
 use native.Mathlib.Omega.{arith}
-use lib.ListN.{getD, set}
+use lib.ListN.{getD, set, replicate}
 use borrow.Author.Needs.{needs}
 use borrow.Author.Tests.{lt-ltb, le-ltb, eq-eqb, ne-eqb, le-leb, lt-leb}
 use Rattle.grounding.specs.Draft.{countIn}
-use Rattle.grounding.specs.Sweeping.{kept, noted, notedFour, markOne, marked, endsNoted}
+use Rattle.batches.specs.Marking.{kept, noted, notedFour, markOne, marked, markedFor}
 
 module _ (limit r : ℕ) (marks : List ℕ) where
   pub note-in : {i : ℕ} → i ≡ r → i ≤ limit → set marks i 1 ≡ noted limit r marks
@@ -66,31 +65,12 @@ pub back-done : {cells : List ℕ} {n : ℕ} {start marks : List ℕ} {left : �
 unfolding marked
 back-done {cells} {n} {start} {marks} {left} w h = let z : left ≡ 0 = omega arith in sym (w .so ∙ ap (λ (i : ℕ). marked cells i marks) z)
 
-pub record Forth (limit : ℕ) (ends : List ℕ) (n : ℕ) (start marks : List ℕ) (j : ℕ) : Type 0 where
-  pub so : marks ≡ endsNoted limit ends j start
-  pub reach : j ≤ n
-
-pub forth-start : (limit : ℕ) (ends : List ℕ) (n : ℕ) (marks : List ℕ) → Forth limit ends n marks marks 0
-unfolding endsNoted
-forth-start limit ends n marks = record { so = refl; reach = omega arith }
-
-pub forth-next : {limit : ℕ} {ends : List ℕ} {n : ℕ} {start marks one two : List ℕ} {j : ℕ} → Forth limit ends n start marks j → j < n → one ≡ noted limit (getD ends (j * 4) 0) marks
-    → two ≡ noted limit (getD ends (j * 4 + 1) 0) one
-    → Forth limit ends n start two (j + 1)
-unfolding endsNoted
-forth-next {limit} {ends} {n} {start} {marks} {one} {two} {j} w h e f =
-    record {
-      so = rw add-one (f ∙ ap (noted limit (getD ends (j * 4 + 1) 0)) (e ∙ ap (noted limit (getD ends (j * 4) 0)) (w .so)));
-      reach = omega arith;
-    }
-
-pub forth-done : {limit : ℕ} {ends : List ℕ} {n : ℕ} {start marks : List ℕ} {j : ℕ} → Forth limit ends n start marks j → n ≤ j → marks ≡ endsNoted limit ends n start
-forth-done {limit} {ends} {n} {start} {marks} {j} w h = let z : j ≡ n = omega (arith, w .reach) in w .so ∙ ap (λ (i : ℕ). endsNoted limit ends i start) z
-
-pub mark-all : (cells ends : List ℕ) (n : ℕ) (start : List ℕ) {count : ℕ} {mid after : List ℕ} → count ≡ countIn cells → mid ≡ endsNoted count ends n start → after ≡ marked cells count mid
-    → after ≡ marked cells (countIn cells) (endsNoted (countIn cells) ends n start)
-mark-all cells ends n start {count} {mid} {after} e f g =
-    g ∙ ap (marked cells count) f ∙ ap (λ (i : ℕ). marked cells i (endsNoted i ends n start)) e
+pub mark-all : (cells : List ℕ) (s : ℕ) {count : ℕ} {start mid after : List ℕ} → start ≡ replicate 16385 0 → count ≡ countIn cells → mid ≡ noted count s start
+    → after ≡ marked cells count mid
+    → after ≡ markedFor cells s
+unfolding markedFor
+mark-all cells s {count} z e f g =
+    g ∙ ap (marked cells count) (f ∙ ap (noted count s) z) ∙ ap (λ (i : ℕ). marked cells i (noted i s (replicate 16385 0))) e
 
 pub mark-room : (cells : List ℕ) {count : ℕ} → countIn cells ≤ 16384 → count ≡ countIn cells → count ≤ 16384
 mark-room cells h e = omega arith
@@ -106,9 +86,6 @@ pub ruleset mine = (
   back-start,
   back-next,
   back-done,
-  forth-start,
-  forth-next,
-  forth-done,
   mark-all,
   mark-room,
 )

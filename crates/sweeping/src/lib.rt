@@ -1,10 +1,10 @@
-// Which steps stay: those that a conclusion cites, and those that a step that stays cites; and their new numbers.
+// Which steps of a column one step rests on.
 use numbering::numbers::wide;
 ghost use mathlib.Core.Path.{_≡_};
 ghost use Prim.Native.Nat.{_+_, _≤_, _<_};
+ghost use lib.ListN.{replicate};
 ghost use Rattle.grounding.specs.Draft.{countIn};
-ghost use Rattle.grounding.specs.Sweeping.{noted, notedFour, markOne, marked, endsNoted, rankOne, ranked};
-ghost use Rattle.sweeping.specs.Numbers.{Numbers};
+ghost use Rattle.batches.specs.Marking.{noted, notedFour, markOne, marked, markedFor};
 
 // Number r is marked, where it is not past a limit.
 fn note(marks: &mut [u16; 16385], limit: usize, r: u16)
@@ -56,55 +56,13 @@ fn mark_steps(cells: &[u16; 114689], marks: &mut [u16; 16385], n: usize)
     }
 }
 
-// What the first n conclusions cite is marked.
-fn mark_ends(ends: &[u16; 64], marks: &mut [u16; 16385], limit: usize, n: usize)
-    requires { ⌜ limit ≤ 16384 ⌝ }
-    requires { ⌜ n ≤ 16 ⌝ }
-    ensures { λ _. ⌜ now (marks .exit) ≡ endsNoted limit (now (ends .entry)) n (now (marks .entry)) ⌝ }
-{
-    let mut j: usize = 0;
-    while j < n {
-        let p = j * 4;
-        note(marks, limit, ends[p]);
-        note(marks, limit, ends[p + 1]);
-        j += 1;
-    }
-}
-
-// The steps that stay, by n conclusions.
-pub fn mark<'a>(cells: &'a [u16; 114689], ends: &'a [u16; 64], marks: &mut [u16; 16385], n: usize)
+// Step s, and what it rests on, in marks of zeros.
+pub fn mark(cells: &[u16; 114689], marks: &mut [u16; 16385], s: u16)
     requires { ⌜ countIn (now cells) ≤ 16384 ⌝ }
-    requires { ⌜ n ≤ 16 ⌝ }
-    ensures { λ _. ⌜ now (marks .exit) ≡ marked (now (cells .entry)) (countIn (now (cells .entry))) (endsNoted (countIn (now (cells .entry))) (now (ends .entry)) n (now (marks .entry))) ⌝ }
+    requires { ⌜ now marks ≡ replicate 16385 0 ⌝ }
+    ensures { λ _. ⌜ now (marks .exit) ≡ markedFor (now (cells .entry)) s ⌝ }
 {
     let count = wide(cells[0]);
-    mark_ends(ends, marks, count, n);
+    note(marks, count, s);
     mark_steps(cells, marks, count);
-}
-
-// Step i, counted from 0, gets the next number where it stays; the last number given.
-fn rank_one(marks: &mut [u16; 16385], i: usize, next: u16) -> u16
-    requires { ⌜ i < 16384 ⌝ }
-    requires { ⌜ next ≤ i ⌝ }
-    ensures { λ r. ⌜ Numbers (now (marks .exit)) r (rankOne i (record { marks = now (marks .entry); next = next })) ⌝ }
-{
-    if marks[i + 1] == 0 {
-        return next;
-    }
-    marks[i + 1] = next + 1;
-    next + 1
-}
-
-// The marks of the first n steps become their new numbers; how many stay.
-pub fn rank(marks: &mut [u16; 16385], n: usize) -> u16
-    requires { ⌜ n ≤ 16384 ⌝ }
-    ensures { λ r. ⌜ Numbers (now (marks .exit)) r (ranked (now (marks .entry)) n) ⌝ }
-{
-    let mut next: u16 = 0;
-    let mut i: usize = 0;
-    while i < n {
-        next = rank_one(marks, i, next);
-        i += 1;
-    }
-    next
 }

@@ -1,8 +1,8 @@
 -- The verdict by each way out of the code.
---     literals-at, conclusions-at   a literal and its conclusion in columns
---     concluded-words               a literal judged by words is judged by steps
---     keys-filled                   the keys of a filled table
---     mine                          what `judge` and `judge_steps` leave to show
+--     conclusions-at      a literal's conclusion in columns
+--     concluded-words     a literal judged by words is judged by steps
+--     keys-filled         the keys of a filled table
+--     mine                what `judge` and `judge_steps` leave to show
 -- Assumes nothing.
 use mathlib.Core.Bool.{Bool, true, false}
 use mathlib.Core.List.{List, [], _∷_, _++_, append-assoc, append-nil}
@@ -13,16 +13,15 @@ use native.Mathlib.Omega.{arith}
 use lib.Dec.{ltb}
 use borrow.Author.Needs.{needs}
 use borrow.Author.Tests.{eq-eqb, ne-eqb, ltb-true, ltb-false}
-use lib.ListN.{length, getD, List·getD-append, List·getD-map}
-use lib.Seq.{getD-at, ext-getD}
+use lib.ListN.{length, getD, List·getD-map}
+use lib.Seq.{ext-getD}
 use Rattle.meaning.specs.Context.{Row, row₀, Context, equationsOf, differencesOf, leftAt, rightAt}
 use Rattle.meaning.specs.Rules.{variables, Literal, equal, unequal, Clause}
-use Rattle.meaning.specs.Grounds.{Step, Conclusion, literal₀, literalAt, conclusionFor, Verified, accepted, unassigned, bad, unconcluded}
+use Rattle.meaning.specs.Grounds.{Step, Conclusion, conclusionFor, Verified, accepted, unassigned, bad, unconcluded}
 use Rattle.meaning.specs.Values.{numberAt}
 use Rattle.meaning.specs.Columns.{rowsFrom, statementsFrom, patternsFrom, literalOf, literalsFrom, contextFrom, clauseFrom}
-use Rattle.meaning.specs.Checking.{entries, keyOf, keysOf, numbered, citedBy, followsBy, apartBySteps, concludesBy, concludedBy, Ends, assignedBy, Faithful}
+use Rattle.meaning.specs.Checking.{entries, keyOf, keysOf, numbered, citedBy, followsBy, differsBySteps, concludesBy, concludedBy, Ends, assignedBy, Faithful}
 use Rattle.meaning.specs.GroundColumns.{stepsFrom, sidesOf, pairsFrom, conclusionFrom, conclusionsFrom}
-use Rattle.meaning.proofs.Lists.{length-snoc}
 use Rattle.meaning.proofs.Entries.{length-map, length-entries}
 use Rattle.meaning.proofs.Cited.{Ready}
 use Rattle.meaning.proofs.Verdicts.{verdict-unassigned, all-assigned, verdict-bad, verdict-unconcluded, verdict-accepted}
@@ -32,29 +31,13 @@ use Rattle.numbering.specs.declared.table.Table.{Table}
 use Rattle.numbering.proofs.Keying.{length-rows, rows-at}
 use Rattle.numbering.proofs.Extending.{length-patterns}
 use Rattle.numbering.specs.Pairs.{pairsOf, Held}
-use Rattle.verifier.specs.Tables.{apartWords, concludesWords, concludedWords}
+use Rattle.verifier.specs.Tables.{differsWords, concludesWords, concludedWords}
 use Rattle.verifier.specs.Claims.{WellFormed, Chosen, Long}
 use Rattle.verifier.proofs.Following.{cited-agree, sides-agree}
 use Rattle.verifier.proofs.Running.{steps-shortest}
+use Rattle.verifier.proofs.Owning.{length-literals, literals-at}
 
--- ---- literals and conclusions in columns
-
-length-literals : (signs ls rs : List ℕ) (n : ℕ) → length (literalsFrom signs ls rs n) ≡ n
-unfolding literalsFrom
-length-literals signs ls rs zero = refl
-length-literals signs ls rs (suc n) = length-snoc (literalsFrom signs ls rs n) _ ∙ ap suc (length-literals signs ls rs n)
-
-literals-at : (signs ls rs : List ℕ) (n j : ℕ) → j < n → literalAt (literalsFrom signs ls rs n) j ≡ literalOf (getD signs j 0) (getD ls j 0) (getD rs j 0)
-unfolding literalsFrom
-literals-at signs ls rs zero j h = absurd (omega arith)
-literals-at signs ls rs (suc n) j h = go (ltb j n) refl (literals-at signs ls rs n j)
-  where
-    go : (b : Bool) → ltb j n ≡ b → (j < n → literalAt (literalsFrom signs ls rs n) j ≡ literalOf (getD signs j 0) (getD ls j 0) (getD rs j 0))
-        → literalAt (literalsFrom signs ls rs (suc n)) j ≡ literalOf (getD signs j 0) (getD ls j 0) (getD rs j 0)
-    go true e rest = List·getD-append (literalsFrom signs ls rs n) _ literal₀ j (omega (arith, length-literals signs ls rs n, ltb-true j n e)) ∙ rest (ltb-true j n e)
-    go false e rest =
-        let z : j ≡ n = omega (arith, ltb-false j n e) in
-        rw z (getD-at (literalsFrom signs ls rs n) (literalOf (getD signs n 0) (getD ls n 0) (getD rs n 0)) [] literal₀ n (length-literals signs ls rs n))
+-- ---- conclusions in columns
 
 -- the conclusion for a literal after some for others
 conclusion-past : (fs ss ds os : List ℕ) (n x : ℕ) (rest : List Conclusion) → n ≤ x → conclusionFor (suc x) (conclusionsFrom fs ss ds os n ++ rest) ≡ conclusionFor (suc x) rest
@@ -92,42 +75,41 @@ module _ (ns : List ℕ) (n m : ℕ) (diffs : List (ℕ × ℕ)) (firsts seconds
   abbrev steps : List Step
   steps = stepsFrom firsts seconds thirds
 
-  cited-words : (x l r : ℕ) → citedBy ns n m (sidesOf firsts) limit x l r ≡ citedBy ns n m steps (length steps) x l r
-  cited-words x l r =
+  cited-words : (o x l r : ℕ) → citedBy ns n m (sidesOf firsts) limit o x l r ≡ citedBy ns n m steps (length steps) o x l r
+  cited-words o x l r =
       sym (cited-agree ns n m steps (sidesOf firsts) limit
-      (sides-agree firsts seconds thirds limit (omega (arith, steps-shortest firsts seconds thirds)) (omega (arith, steps-shortest firsts seconds thirds)) (omega (arith, steps-shortest firsts seconds thirds)))
+      (sides-agree firsts seconds thirds limit (omega arith))
+      o
       x
       l
       r)
-      ∙ ap (λ (y : ℕ). citedBy ns n m steps y x l r) el
+      ∙ ap (λ (y : ℕ). citedBy ns n m steps y o x l r) el
 
-  apart-words : (d : Conclusion) (l r : ℕ)
-      → apartWords ns n m diffs (sidesOf firsts) limit (d .first) (d .second) (d .difference) (d .orientation) l r ≡ apartBySteps ns n m diffs steps d l r
-  unfolding apartWords apartBySteps
-  apart-words d l r =
-      let p : ℕ = leftAt diffs (d .difference - 1) in
-      let q : ℕ = rightAt diffs (d .difference - 1) in
-      rw (cited-words (d .first) l p, cited-words (d .second) r q, cited-words (d .first) l q, cited-words (d .second) r p)
+  differs-words : (o : ℕ) (d : Conclusion)
+      → differsWords ns n m diffs (sidesOf firsts) limit o (d .first) (d .difference) ≡ differsBySteps ns n m diffs steps o d
+  unfolding differsWords differsBySteps
+  differs-words o d = rw (cited-words o (d .first) (leftAt diffs (d .difference - 1)) (rightAt diffs (d .difference - 1)))
 
-  concludes-words : (d : Conclusion) (x : Literal) → concludesWords ns n m diffs (sidesOf firsts) limit d x ≡ concludesBy ns n m diffs steps d x
+  concludes-words : (o : ℕ) (d : Conclusion) (x : Literal)
+      → concludesWords ns n m diffs (sidesOf firsts) limit o (d .first) (d .difference) x ≡ concludesBy ns n m diffs steps o d x
   unfolding concludesWords concludesBy
-  concludes-words d (equal p q) = cited-words (d .first) (numberAt ns (n + p)) (numberAt ns (n + q))
-  concludes-words d (unequal p q) = apart-words d (numberAt ns (n + p)) (numberAt ns (n + q))
+  concludes-words o d (equal p q) = cited-words 0 (d .first) (numberAt ns (n + p)) (numberAt ns (n + q))
+  concludes-words o d (unequal p q) = differs-words o d
 
   module _ (fs ss dd os signs ls rs : List ℕ) (literals : ℕ) (few : literals ≤ 16) where
     abbrev ds : List Conclusion
     ds = conclusionsFrom fs ss dd os 16
 
     concluded-words : (j : ℕ) → j < literals
-        → concludedWords ns n m diffs (sidesOf firsts) limit fs ss dd os signs ls rs j ≡ concludedBy ns n m diffs (literalsFrom signs ls rs literals) steps ds j
-    unfolding concludedBy
+        → concludedWords ns n m diffs (sidesOf firsts) limit fs dd signs ls rs j ≡ concludedBy ns n m diffs (literalsFrom signs ls rs literals) steps ds j
+    unfolding concludedBy conclusionFrom
     concluded-words j h =
-        concludes-words (conclusionFrom fs ss dd os j) (literalOf (getD signs j 0) (getD ls j 0) (getD rs j 0))
-        ∙ ap₂ (λ (d : Conclusion) (x : Literal). concludesBy ns n m diffs steps d x)
+        concludes-words (suc j) (conclusionFrom fs ss dd os j) (literalOf (getD signs j 0) (getD ls j 0) (getD rs j 0))
+        ∙ ap₂ (λ (d : Conclusion) (x : Literal). concludesBy ns n m diffs steps (suc j) d x)
         (sym (ap (conclusionFor (suc j)) (sym (append-nil ds)) ∙ conclusions-at fs ss dd os 16 j [] (omega arith)))
         (sym (literals-at signs ls rs literals j h))
 
-    ends-words : (j : ℕ) → Ends (concludedWords ns n m diffs (sidesOf firsts) limit fs ss dd os signs ls rs) literals j
+    ends-words : (j : ℕ) → Ends (concludedWords ns n m diffs (sidesOf firsts) limit fs dd signs ls rs) literals j
         → Ends (concludedBy ns n m diffs (literalsFrom signs ls rs literals) steps ds) literals j
     ends-words j w =
         record {
@@ -227,7 +209,7 @@ module _ (symbols counts args : List ℕ) (rows : ℕ) (kinds lefts rights : Lis
           }
 
       module _ (firsts seconds thirds : List ℕ) (i : ℕ)
-          (ei : Ends (followsBy (t .numbers) rows patterns (rowsFrom (t .symbols) (t .counts) (t .args) (rows + patterns)) (numbered (t .numbers) (pairsOf true (statementsFrom kinds lefts rights statements))) (stepsFrom firsts seconds thirds)) (length (stepsFrom firsts seconds thirds)) i)
+          (ei : Ends (followsBy (t .numbers) rows patterns (rowsFrom (t .symbols) (t .counts) (t .args) (rows + patterns)) (numbered (t .numbers) (pairsOf true (statementsFrom kinds lefts rights statements))) (literalsFrom signs ls rs literals) (stepsFrom firsts seconds thirds)) (length (stepsFrom firsts seconds thirds)) i)
           (fs ss dd os : List ℕ) where
         abbrev given : List Step
         given = stepsFrom firsts seconds thirds
@@ -235,7 +217,7 @@ module _ (symbols counts args : List ℕ) (rows : ℕ) (kinds lefts rights : Lis
         abbrev conclusions : List Conclusion
         conclusions = conclusionsFrom fs ss dd os 16
 
-        step-ends : Ends (followsBy (t .numbers) (length rs′) (length (patternsFrom shapes heads arities subs patterns)) (keysOf (t .numbers) all) (numbered (t .numbers) (equationsOf (statementsFrom kinds lefts rights statements))) given) (length given) i
+        step-ends : Ends (followsBy (t .numbers) (length rs′) (length (patternsFrom shapes heads arities subs patterns)) (keysOf (t .numbers) all) (numbered (t .numbers) (equationsOf (statementsFrom kinds lefts rights statements))) (literalsFrom signs ls rs literals) given) (length given) i
         unfolding pairsOf
         step-ends =
             rw (length-rows symbols counts args rows, length-patterns shapes heads arities subs patterns, ← keys-filled all t (rows + patterns) f all-long) ei
@@ -245,7 +227,7 @@ module _ (symbols counts args : List ℕ) (rows : ℕ) (kinds lefts rights : Lis
         judge-bad n e h = rw (add-one i) (verdict-bad c k a given conclusions (t .numbers) ready i step-ends (omega arith))
 
         module _ (n j : ℕ) (en : n ≡ length (stepsFrom firsts seconds thirds)) (hi : n ≤ i)
-            (ej : Ends (concludedWords (t .numbers) rows patterns (numbered (t .numbers) (pairsOf false (statementsFrom kinds lefts rights statements))) (sidesOf firsts) n fs ss dd os signs ls rs) literals j) where
+            (ej : Ends (concludedWords (t .numbers) rows patterns (numbered (t .numbers) (pairsOf false (statementsFrom kinds lefts rights statements))) (sidesOf firsts) n fs dd signs ls rs) literals j) where
           literal-ends : Ends (concludedBy (t .numbers) (length rs′) (length (patternsFrom shapes heads arities subs patterns)) (numbered (t .numbers) (differencesOf (statementsFrom kinds lefts rights statements))) (literalsFrom signs ls rs literals) given conclusions) (length (literalsFrom signs ls rs literals)) j
           unfolding pairsOf
           literal-ends =
@@ -265,17 +247,18 @@ module _ (symbols counts args : List ℕ) (rows : ℕ) (kinds lefts rights : Lis
 
 -- ---- stated pairs in columns
 
-pub held-steps : (ns : List ℕ) (n m : ℕ) (ks : List Row) (pairs : List (ℕ × ℕ)) (el er : List ℕ) (ec : ℕ) (steps : List Step) (size i : ℕ) → Held pairs el er ec
-    → Ends (followsBy ns n m ks (pairsFrom el er ec) steps) size i
-    → Ends (followsBy ns n m ks pairs steps) size i
-held-steps ns n m ks pairs el er ec steps size i h w = rw (h .hold) at w
-
-pub held-literals : (ns : List ℕ) (n m : ℕ) (pairs : List (ℕ × ℕ)) (el er : List ℕ) (ec : ℕ) (words : List ℕ) (limit : ℕ) (fs ss dd os signs ls rs : List ℕ) (size j : ℕ)
+pub held-steps : (ns : List ℕ) (n m : ℕ) (ks : List Row) (pairs : List (ℕ × ℕ)) (el er : List ℕ) (ec : ℕ) (ls : List Literal) (steps : List Step) (size i : ℕ)
     → Held pairs el er ec
-    → Ends (concludedWords ns n m (pairsFrom el er ec) (sidesOf words) limit fs ss dd os signs ls rs) size j
-    → Ends (concludedWords ns n m pairs (sidesOf words) limit fs ss dd os signs ls rs) size j
-held-literals ns n m pairs el er ec words limit fs ss dd os signs ls rs size j h w =
-    subst (λ (x : List (ℕ × ℕ)). Ends (concludedWords ns n m x (sidesOf words) limit fs ss dd os signs ls rs) size j) (h .hold) w
+    → Ends (followsBy ns n m ks (pairsFrom el er ec) ls steps) size i
+    → Ends (followsBy ns n m ks pairs ls steps) size i
+held-steps ns n m ks pairs el er ec ls steps size i h w = rw (h .hold) at w
+
+pub held-literals : (ns : List ℕ) (n m : ℕ) (pairs : List (ℕ × ℕ)) (el er : List ℕ) (ec : ℕ) (words : List ℕ) (limit : ℕ) (fs dd signs ls rs : List ℕ) (size j : ℕ)
+    → Held pairs el er ec
+    → Ends (concludedWords ns n m (pairsFrom el er ec) (sidesOf words) limit fs dd signs ls rs) size j
+    → Ends (concludedWords ns n m pairs (sidesOf words) limit fs dd signs ls rs) size j
+held-literals ns n m pairs el er ec words limit fs dd signs ls rs size j h w =
+    subst (λ (x : List (ℕ × ℕ)). Ends (concludedWords ns n m x (sidesOf words) limit fs dd signs ls rs) size j) (h .hold) w
 
 pub inside-steps : (firsts seconds thirds : List ℕ) (n : ℕ) → n ≡ length (stepsFrom firsts seconds thirds) → n ≤ length firsts
 inside-steps firsts seconds thirds n e = omega (arith, steps-shortest firsts seconds thirds)

@@ -1,6 +1,7 @@
--- The root of the laws: numbers of references and steps cited; the kinds of step; loops; assignments; conclusions; the verdict; and that an answer is one.
+-- The root of the laws: numbers of references and steps cited; the kinds of step; owners; loops; assignments; conclusions; the verdict; and that an answer is one.
 pub mod Numbers
 pub mod Ways
+pub mod Owning
 pub mod Following
 pub mod Running
 pub mod Assigning

@@ -71,38 +71,38 @@ module _ (lefts rights : List ℕ) (n x l r : ℕ) where
 
 -- ---- two steps that meet
 
-module _ (ns : List ℕ) (n m : ℕ) (words : List ℕ) (limit x y l r : ℕ) where
+module _ (ns : List ℕ) (n m : ℕ) (words : List ℕ) (limit o x y l r : ℕ) where
   abbrev found : ℕ → ℕ → ℕ → Bool
-  found z p q = citedBy ns n m (sidesOf words) limit z p q
+  found z p q = citedBy ns n m (sidesOf words) limit o z p q
 
-  pub met-zero : x ≡ 0 → false ≡ metBy ns n m (sidesOf words) limit x y l r
+  pub met-zero : x ≡ 0 → false ≡ metBy ns n m (sidesOf words) limit o x y l r
   unfolding metBy
-  met-zero e = rw (← cited-zero ns n m words limit x l _ e)
+  met-zero e = rw (← cited-zero ns n m words limit o x l _ e)
 
-  pub met-late : (x ≡ 0 → ⊥) → limit ≤ x - 1 → false ≡ metBy ns n m (sidesOf words) limit x y l r
+  pub met-late : (x ≡ 0 → ⊥) → limit ≤ x - 1 → false ≡ metBy ns n m (sidesOf words) limit o x y l r
   unfolding metBy
-  met-late h i = rw (← cited-late ns n m words limit x l _ h i)
+  met-late h i = rw (← cited-late ns n m words limit o x l _ h i)
 
   met-middle : (s : ℕ) → x - 1 < limit → limit ≤ length words → s ≡ sideOf ns n m (rightRef (getD words (x - 1) 0))
-      → metBy ns n m (sidesOf words) limit x y l r ≡ (found x l s && (ltb s (n + m) && found y s r))
+      → metBy ns n m (sidesOf words) limit o x y l r ≡ (found x l s && (ltb s (n + m) && found y s r))
   unfolding metBy stepFrom
   met-middle s i j e = rw (sides-at words (x - 1) (omega arith), e)
 
   pub met-nowhere : (s : ℕ) → x - 1 < limit → limit ≤ length words → s ≡ sideOf ns n m (rightRef (getD words (x - 1) 0)) → n + m ≤ s
-      → false ≡ metBy ns n m (sidesOf words) limit x y l r
+      → false ≡ metBy ns n m (sidesOf words) limit o x y l r
   met-nowhere s i j e h = sym (met-middle s i j e ∙ and-off (found x l s) _ (rw (le-ltb s (n + m) h)))
 
   pub met-first : (s : ℕ) (b : Bool) → x - 1 < limit → limit ≤ length words → s ≡ sideOf ns n m (rightRef (getD words (x - 1) 0))
-      → b ≡ citedBy ns n m (sidesOf words) limit x l s
+      → b ≡ citedBy ns n m (sidesOf words) limit o x l s
       → not b ≡ true
-      → false ≡ metBy ns n m (sidesOf words) limit x y l r
+      → false ≡ metBy ns n m (sidesOf words) limit o x y l r
   met-first s b i j e f g = sym (met-middle s i j e ∙ rw (← f, not-true b g))
 
   pub met-both : (s : ℕ) (b d : Bool) → x - 1 < limit → limit ≤ length words → s ≡ sideOf ns n m (rightRef (getD words (x - 1) 0)) → s < n + m
-      → b ≡ citedBy ns n m (sidesOf words) limit x l s
+      → b ≡ citedBy ns n m (sidesOf words) limit o x l s
       → not b ≡ false
-      → d ≡ citedBy ns n m (sidesOf words) limit y s r
-      → d ≡ metBy ns n m (sidesOf words) limit x y l r
+      → d ≡ citedBy ns n m (sidesOf words) limit o y s r
+      → d ≡ metBy ns n m (sidesOf words) limit o x y l r
   met-both s b d i j e h f g k = sym (met-middle s i j e ∙ rw (← f, not-false b g, lt-ltb s (n + m) h, ← k))
 
 -- ---- the four numbers
@@ -125,15 +125,15 @@ module _ (y z k : ℕ) where
 
 -- ---- arguments one by one
 
-module _ (ns : List ℕ) (n m : ℕ) (steps : List Step) (limit : ℕ) (xs args : List ℕ) where
+module _ (ns : List ℕ) (n m : ℕ) (steps : List Step) (limit o : ℕ) (xs args : List ℕ) where
   each-next : (c i p q : ℕ) → p < length args → q < length args
-      → eachBy ns n m steps limit xs i (take (suc c) (drop p args)) (take (suc c) (drop q args))
-      ≡ (citedBy ns n m steps limit (getD xs i 0) (getD args p 0) (getD args q 0) && eachBy ns n m steps limit xs (suc i) (take c (drop (suc p) args)) (take c (drop (suc q) args)))
+      → eachBy ns n m steps limit o xs i (take (suc c) (drop p args)) (take (suc c) (drop q args))
+      ≡ (citedBy ns n m steps limit o (getD xs i 0) (getD args p 0) (getD args q 0) && eachBy ns n m steps limit o xs (suc i) (take c (drop (suc p) args)) (take c (drop (suc q) args)))
   unfolding eachBy
   each-next c i p q h g = rw (drop-cons args p 0 h, drop-cons args q 0 g)
 
   abbrev at : ℕ → ℕ → ℕ → ℕ → Bool
-  at i p q j = citedBy ns n m steps limit (getD xs (i + j) 0) (getD args (p + j) 0) (getD args (q + j) 0)
+  at i p q j = citedBy ns n m steps limit o (getD xs (i + j) 0) (getD args (p + j) 0) (getD args (q + j) 0)
 
   at-shift : (i p q j : ℕ) → at (suc i) (suc p) (suc q) j ≡ at i p q (suc j)
   at-shift i p q j =
@@ -142,7 +142,7 @@ module _ (ns : List ℕ) (n m : ℕ) (steps : List Step) (limit : ℕ) (xs args 
       let g : suc q + j ≡ q + suc j = omega arith in
       rw (e, f, g)
 
-  at-start : (i p q : ℕ) → at i p q 0 ≡ citedBy ns n m steps limit (getD xs i 0) (getD args p 0) (getD args q 0)
+  at-start : (i p q : ℕ) → at i p q 0 ≡ citedBy ns n m steps limit o (getD xs i 0) (getD args p 0) (getD args q 0)
   at-start i p q =
       let e : i + 0 ≡ i = omega arith in
       let f : p + 0 ≡ p = omega arith in
@@ -150,7 +150,7 @@ module _ (ns : List ℕ) (n m : ℕ) (steps : List Step) (limit : ℕ) (xs args 
       rw (e, f, g)
 
   each-all : (c i p q : ℕ) → p + c ≤ length args → q + c ≤ length args → ((j : ℕ) → j < c → at i p q j ≡ true)
-      → eachBy ns n m steps limit xs i (take c (drop p args)) (take c (drop q args)) ≡ true
+      → eachBy ns n m steps limit o xs i (take c (drop p args)) (take c (drop q args)) ≡ true
   unfolding eachBy
   each-all zero i p q h g w = refl
   each-all (suc c) i p q h g w =
@@ -159,60 +159,60 @@ module _ (ns : List ℕ) (n m : ℕ) (steps : List Step) (limit : ℕ) (xs args 
       (each-all c (suc i) (suc p) (suc q) (omega arith) (omega arith) (λ j l. at-shift i p q j ∙ w (suc j) (omega arith)))
 
   each-none : (c i p q j : ℕ) → p + c ≤ length args → q + c ≤ length args → j < c → at i p q j ≡ false
-      → eachBy ns n m steps limit xs i (take c (drop p args)) (take c (drop q args)) ≡ false
+      → eachBy ns n m steps limit o xs i (take c (drop p args)) (take c (drop q args)) ≡ false
   each-none zero i p q j h g l e = absurd (omega arith)
   each-none (suc c) i p q zero h g l e = each-next c i p q (omega arith) (omega arith) ∙ rw (sym (at-start i p q) ∙ e)
   each-none (suc c) i p q (suc j) h g l e =
       each-next c i p q (omega arith) (omega arith)
-      ∙ and-off (citedBy ns n m steps limit (getD xs i 0) (getD args p 0) (getD args q 0)) _
+      ∙ and-off (citedBy ns n m steps limit o (getD xs i 0) (getD args p 0) (getD args q 0)) _
       (each-none c (suc i) (suc p) (suc q) j (omega arith) (omega arith) (omega arith) (at-shift i p q j ∙ e))
 
-pub cited-as : (ns : List ℕ) (n m : ℕ) (words : List ℕ) (limit x l r u v w : ℕ) (b : Bool) → b ≡ citedBy ns n m (sidesOf words) limit x l r → x ≡ u → l ≡ v → r ≡ w
-    → b ≡ citedBy ns n m (sidesOf words) limit u v w
-cited-as ns n m words limit x l r u v w b e f g h = rw (← f, ← g, ← h) e
+pub cited-as : (ns : List ℕ) (n m : ℕ) (words : List ℕ) (limit o x l r u v w : ℕ) (b : Bool) → b ≡ citedBy ns n m (sidesOf words) limit o x l r → x ≡ u → l ≡ v → r ≡ w
+    → b ≡ citedBy ns n m (sidesOf words) limit o u v w
+cited-as ns n m words limit o x l r u v w b e f g h = rw (← f, ← g, ← h) e
 
 -- the first k arguments are cited, of those from places p and q on
-pub record Cited (ns : List ℕ) (n m : ℕ) (words : List ℕ) (limit y z : ℕ) (args : List ℕ) (p q count k : ℕ) : Type 0 where
+pub record Cited (ns : List ℕ) (n m : ℕ) (words : List ℕ) (limit o y z : ℕ) (args : List ℕ) (p q count k : ℕ) : Type 0 where
   pub most : k ≤ count
-  pub so : (j : ℕ) → j < k → citedBy ns n m (sidesOf words) limit (getD (numbersIn y z) j 0) (getD args (p + j) 0) (getD args (q + j) 0) ≡ true
+  pub so : (j : ℕ) → j < k → citedBy ns n m (sidesOf words) limit o (getD (numbersIn y z) j 0) (getD args (p + j) 0) (getD args (q + j) 0) ≡ true
 
-module _ (ns : List ℕ) (n m : ℕ) (words : List ℕ) (limit y z : ℕ) (args : List ℕ) (p q count k : ℕ) where
-  pub cited-start : Cited ns n m words limit y z args p q count 0
+module _ (ns : List ℕ) (n m : ℕ) (words : List ℕ) (limit o y z : ℕ) (args : List ℕ) (p q count k : ℕ) where
+  pub cited-start : Cited ns n m words limit o y z args p q count 0
   cited-start = record { most = omega arith; so = λ j h. absurd (omega arith) }
 
-  module _ (b : Bool) (w : Cited ns n m words limit y z args p q count k) (inside : k < count)
-      (eb : b ≡ citedBy ns n m (sidesOf words) limit (getD (numbersIn y z) k 0) (getD args (p + k) 0) (getD args (q + k) 0)) where
-    pub cited-next : not b ≡ false → Cited ns n m words limit y z args p q count (k + 1)
+  module _ (b : Bool) (w : Cited ns n m words limit o y z args p q count k) (inside : k < count)
+      (eb : b ≡ citedBy ns n m (sidesOf words) limit o (getD (numbersIn y z) k 0) (getD args (p + k) 0) (getD args (q + k) 0)) where
+    pub cited-next : not b ≡ false → Cited ns n m words limit o y z args p q count (k + 1)
     cited-next e = record { most = omega arith; so = below-more _ _ (w .so) (sym eb ∙ not-false b e) }
 
     pub cited-stop : p + count ≤ length args → q + count ≤ length args → not b ≡ true
-        → false ≡ eachBy ns n m (sidesOf words) limit (numbersIn y z) 0 (take count (drop p args)) (take count (drop q args))
+        → false ≡ eachBy ns n m (sidesOf words) limit o (numbersIn y z) 0 (take count (drop p args)) (take count (drop q args))
     cited-stop hp hq e =
-        sym (each-none ns n m (sidesOf words) limit (numbersIn y z) args count 0 p q k hp hq inside
+        sym (each-none ns n m (sidesOf words) limit o (numbersIn y z) args count 0 p q k hp hq inside
         (let f : 0 + k ≡ k = omega arith in rw f (sym eb ∙ not-true b e)))
 
-  pub cited-done : Cited ns n m words limit y z args p q count k → count ≤ k → p + count ≤ length args → q + count ≤ length args
-      → true ≡ eachBy ns n m (sidesOf words) limit (numbersIn y z) 0 (take count (drop p args)) (take count (drop q args))
+  pub cited-done : Cited ns n m words limit o y z args p q count k → count ≤ k → p + count ≤ length args → q + count ≤ length args
+      → true ≡ eachBy ns n m (sidesOf words) limit o (numbersIn y z) 0 (take count (drop p args)) (take count (drop q args))
   cited-done w h hp hq =
-      sym (each-all ns n m (sidesOf words) limit (numbersIn y z) args count 0 p q (omega arith) (omega arith) (λ j l.
+      sym (each-all ns n m (sidesOf words) limit o (numbersIn y z) args count 0 p q (omega arith) (omega arith) (λ j l.
       let f : 0 + j ≡ j = omega arith in rw f (w .so j (omega arith))))
 
 -- ---- a symbol over arguments
 
-module _ (ns : List ℕ) (n m : ℕ) (words : List ℕ) (limit : ℕ) (xs symbols counts args : List ℕ) (l r : ℕ) where
+module _ (ns : List ℕ) (n m : ℕ) (words : List ℕ) (limit o : ℕ) (xs symbols counts args : List ℕ) (l r : ℕ) where
   abbrev congruent : Bool
-  congruent = congruentBy ns n m (sidesOf words) limit xs (rowFrom symbols counts args l) (rowFrom symbols counts args r)
+  congruent = congruentBy ns n m (sidesOf words) limit o xs (rowFrom symbols counts args l) (rowFrom symbols counts args r)
 
   pub congruent-symbols : (getD symbols l 0 ≡ getD symbols r 0 → ⊥) → false ≡ congruent
   unfolding congruentBy
   congruent-symbols e = rw (ne-eqb (getD symbols l 0) (getD symbols r 0) e)
 
-  each-lengths : (i : ℕ) (ls rs : List ℕ) → (length ls ≡ length rs → ⊥) → eachBy ns n m (sidesOf words) limit xs i ls rs ≡ false
+  each-lengths : (i : ℕ) (ls rs : List ℕ) → (length ls ≡ length rs → ⊥) → eachBy ns n m (sidesOf words) limit o xs i ls rs ≡ false
   unfolding eachBy
   each-lengths i [] [] e = absurd (e refl)
   each-lengths i [] (y ∷ rs) e = refl
   each-lengths i (x ∷ ls) [] e = refl
-  each-lengths i (x ∷ ls) (y ∷ rs) e = and-off (citedBy ns n m (sidesOf words) limit (getD xs i 0) x y) _ (each-lengths (suc i) ls rs (λ z. e (ap suc z)))
+  each-lengths i (x ∷ ls) (y ∷ rs) e = and-off (citedBy ns n m (sidesOf words) limit o (getD xs i 0) x y) _ (each-lengths (suc i) ls rs (λ z. e (ap suc z)))
 
   module _ (size : ℕ) (keyed : Keyed counts args size) (hl : l < size) (hr : r < size) where
     pub congruent-room : (count : ℕ) → count ≡ getD counts l 0 → l * 4 + count ≤ length args
@@ -232,7 +232,7 @@ module _ (ns : List ℕ) (n m : ℕ) (words : List ℕ) (limit : ℕ) (xs symbol
         e (sym (args-long l hl) ∙ z ∙ args-long r hr))))
 
   pub congruent-args : (count : ℕ) (b : Bool) → getD symbols l 0 ≡ getD symbols r 0 → getD counts l 0 ≡ getD counts r 0 → count ≡ getD counts l 0
-      → b ≡ eachBy ns n m (sidesOf words) limit xs 0 (take count (drop (l * 4) args)) (take count (drop (r * 4) args))
+      → b ≡ eachBy ns n m (sidesOf words) limit o xs 0 (take count (drop (l * 4) args)) (take count (drop (r * 4) args))
       → b ≡ congruent
   unfolding congruentBy
   congruent-args count b e f g h = rw (eq-eqb (getD symbols l 0) (getD symbols r 0) e, ← f, ← g) h

@@ -1,6 +1,7 @@
 // Grounds for a breach, judged: whether the assignment names context rows, each step follows from earlier ones, and each literal is concluded.
 mod assignment;
 mod literals;
+mod owners;
 mod sides;
 mod steps;
 
@@ -16,7 +17,7 @@ ghost use mathlib.Core.Bool.{true, false};
 ghost use mathlib.Core.Path.{_≡_};
 ghost use Prim.Native.Nat.{_+_, _≤_};
 ghost use lib.ListN.{length};
-ghost use Rattle.meaning.specs.Columns.{rowsFrom, statementsFrom, patternsFrom, contextFrom, clauseFrom};
+ghost use Rattle.meaning.specs.Columns.{rowsFrom, statementsFrom, patternsFrom, literalsFrom, contextFrom, clauseFrom};
 ghost use Rattle.meaning.specs.Grounds.{Verified};
 ghost use Rattle.meaning.specs.Checking.{entries, numbered, followsBy, Ends};
 ghost use Rattle.meaning.specs.GroundColumns.{stepsFrom, sidesOf, conclusionsFrom};
@@ -34,7 +35,7 @@ pub enum Answer {
     Unconcluded(usize),
 }
 
-// A place for each literal; an absent conclusion cites step 0.
+// A place for each literal; an absent conclusion cites step 0. Second steps and orientations are not read.
 pub struct Conclusions {
     pub firsts: [u32; 16],
     pub seconds: [u32; 16],
@@ -60,14 +61,19 @@ fn bad_step<'a>(
     t: Table,
     rows: usize,
     patterns: usize,
+    signs: &'a [u8; 16],
+    ls: &'a [u16; 16],
+    rs: &'a [u16; 16],
+    literals: usize,
     firsts: &'a [u64],
     seconds: &'a [u64],
     thirds: &'a [u64],
 ) -> usize
     requires { ⌜ statements ≤ 510 ⌝ }
     requires { ⌜ rows + patterns ≤ 319 ⌝ }
+    requires { ⌜ literals ≤ 16 ⌝ }
     requires { ⌜ Keyed (t .counts) (t .args) (rows + patterns) ⌝ }
-    ensures { λ i. ⌜ Ends (followsBy (t .numbers) rows patterns (rowsFrom (t .symbols) (t .counts) (t .args) (rows + patterns)) (numbered (t .numbers) (pairsOf true (statementsFrom (now (kinds .entry)) (now (lefts .entry)) (now (rights .entry)) statements))) (stepsFrom (now (firsts .entry)) (now (seconds .entry)) (now (thirds .entry)))) (length (stepsFrom (now (firsts .entry)) (now (seconds .entry)) (now (thirds .entry)))) i ⌝ }
+    ensures { λ i. ⌜ Ends (followsBy (t .numbers) rows patterns (rowsFrom (t .symbols) (t .counts) (t .args) (rows + patterns)) (numbered (t .numbers) (pairsOf true (statementsFrom (now (kinds .entry)) (now (lefts .entry)) (now (rights .entry)) statements))) (literalsFrom (now (signs .entry)) (now (ls .entry)) (now (rs .entry)) literals) (stepsFrom (now (firsts .entry)) (now (seconds .entry)) (now (thirds .entry)))) (length (stepsFrom (now (firsts .entry)) (now (seconds .entry)) (now (thirds .entry)))) i ⌝ }
 {
     let p = stated(kinds, lefts, rights, statements, &t.numbers, true);
     first_bad(
@@ -77,6 +83,10 @@ fn bad_step<'a>(
         &p.lefts,
         &p.rights,
         p.count,
+        signs,
+        ls,
+        rs,
+        literals,
         &t.numbers,
         rows,
         patterns,
@@ -107,7 +117,7 @@ fn open_literal<'a>(
     requires { ⌜ rows + patterns ≤ 319 ⌝ }
     requires { ⌜ literals ≤ 16 ⌝ }
     requires { ⌜ limit ≤ length (now words) ⌝ }
-    ensures { λ j. ⌜ Ends (concludedWords (now (numbers .entry)) rows patterns (numbered (now (numbers .entry)) (pairsOf false (statementsFrom (now (kinds .entry)) (now (lefts .entry)) (now (rights .entry)) statements))) (sidesOf (now (words .entry))) limit (d .firsts) (d .seconds) (d .differences) (d .orientations) (now (signs .entry)) (now (ls .entry)) (now (rs .entry))) literals j ⌝ }
+    ensures { λ j. ⌜ Ends (concludedWords (now (numbers .entry)) rows patterns (numbered (now (numbers .entry)) (pairsOf false (statementsFrom (now (kinds .entry)) (now (lefts .entry)) (now (rights .entry)) statements))) (sidesOf (now (words .entry))) limit (d .firsts) (d .differences) (now (signs .entry)) (now (ls .entry)) (now (rs .entry))) literals j ⌝ }
 {
     let p = stated(kinds, lefts, rights, statements, numbers, false);
     first_open(
@@ -116,9 +126,7 @@ fn open_literal<'a>(
         rs,
         literals,
         &d.firsts,
-        &d.seconds,
         &d.differences,
-        &d.orientations,
         &p.lefts,
         &p.rights,
         p.count,
@@ -169,6 +177,10 @@ fn judge_by<'a>(
         t,
         rows,
         patterns,
+        signs,
+        ls,
+        rs,
+        literals,
         firsts,
         seconds,
         thirds,

@@ -1,14 +1,26 @@
-// The numbers of what the references of steps stand for.
+// The numbers of what the references of steps stand for, and the steps that an owner may cite.
+use numbering::numbers::number_of;
+ghost use mathlib.Core.Bool.{_||_};
 ghost use mathlib.Core.Path.{_≡_};
 ghost use Prim.Native.Nat.{_+_, _≤_};
+ghost use lib.Dec.{eqb};
 ghost use lib.ListN.{length};
+ghost use Rattle.meaning.specs.Values.{numberAt};
 ghost use Rattle.meaning.specs.Checking.{numberBelow, sideOf, citedBy};
-ghost use Rattle.meaning.specs.GroundColumns.{leftRef, rightRef, sidesOf};
+ghost use Rattle.meaning.specs.GroundColumns.{ownerOf, leftRef, rightRef, sidesOf};
 
 pub fn wide(x: u16) -> usize
     ensures { λ r. ⌜ r ≡ x ⌝ }
 {
     x as usize
+}
+
+// The number of a pattern row's instance.
+pub fn instance_number(numbers: &[u16; 319], rows: usize, p: u16) -> usize
+    requires { ⌜ rows ≤ 319 ⌝ }
+    ensures { λ r. ⌜ r ≡ numberAt (now (numbers .entry)) (rows + p) ⌝ }
+{
+    wide(number_of(numbers, rows + wide(p)))
 }
 
 // The number of a row below a limit, after an offset.
@@ -54,10 +66,22 @@ pub fn right_side(numbers: &[u16; 319], rows: usize, patterns: usize, word: u64)
     side(numbers, rows, patterns, (word / 65536) % 256, row)
 }
 
-// Whether step x, of the first so many, has the sides l and r.
+// Whether a step is shared or the owner's.
+fn usable(word: u64, owner: u64) -> bool
+    ensures { λ b. ⌜ b ≡ (eqb (ownerOf word) 0 || eqb (ownerOf word) owner) ⌝ }
+{
+    let o = word / 72057594037927936;
+    if o == 0 {
+        return true;
+    }
+    o == owner
+}
+
+// Whether step x, of the first so many, may be used by an owner and has the sides l and r.
 pub fn cited<'a>(
     words: &'a [u64],
     limit: usize,
+    owner: u64,
     numbers: &'a [u16; 319],
     rows: usize,
     patterns: usize,
@@ -67,7 +91,7 @@ pub fn cited<'a>(
 ) -> bool
     requires { ⌜ rows + patterns ≤ 319 ⌝ }
     requires { ⌜ limit ≤ length (now words) ⌝ }
-    ensures { λ b. ⌜ b ≡ citedBy (now (numbers .entry)) rows patterns (sidesOf (now (words .entry))) limit x l r ⌝ }
+    ensures { λ b. ⌜ b ≡ citedBy (now (numbers .entry)) rows patterns (sidesOf (now (words .entry))) limit owner x l r ⌝ }
 {
     if x == 0 {
         return false;
@@ -76,8 +100,12 @@ pub fn cited<'a>(
     if limit <= place {
         return false;
     }
-    if left_side(numbers, rows, patterns, words[place]) != l {
+    let word = words[place];
+    if !usable(word, owner) {
         return false;
     }
-    right_side(numbers, rows, patterns, words[place]) == r
+    if left_side(numbers, rows, patterns, word) != l {
+        return false;
+    }
+    right_side(numbers, rows, patterns, word) == r
 }

@@ -1,4 +1,6 @@
 // Whether a step follows from the steps before it, by the numbers of its terms.
+use super::owners::added;
+use super::owners::owner_there;
 use super::sides::cited;
 use super::sides::left_side;
 use super::sides::right_side;
@@ -6,7 +8,7 @@ use super::sides::wide;
 ghost use mathlib.Core.Path.{_≡_};
 ghost use Prim.Native.Nat.{_+_, _≤_, _<_, min};
 ghost use lib.ListN.{length, getD};
-ghost use Rattle.meaning.specs.Columns.{rowFrom, rowsFrom};
+ghost use Rattle.meaning.specs.Columns.{rowFrom, rowsFrom, literalsFrom};
 ghost use Rattle.meaning.specs.Checking.{pairedBy, citedBy, metBy, congruentBy, eachBy, derivesBy, followsBy, Ends};
 ghost use Rattle.meaning.specs.GroundColumns.{numbersIn, stepsFrom, sidesOf, pairsFrom};
 ghost use Rattle.numbering.specs.Keys.{Keyed};
@@ -47,6 +49,7 @@ pub fn paired<'a>(
 fn met<'a>(
     words: &'a [u64],
     limit: usize,
+    owner: u64,
     numbers: &'a [u16; 319],
     rows: usize,
     patterns: usize,
@@ -57,7 +60,7 @@ fn met<'a>(
 ) -> bool
     requires { ⌜ rows + patterns ≤ 319 ⌝ }
     requires { ⌜ limit ≤ length (now words) ⌝ }
-    ensures { λ b. ⌜ b ≡ metBy (now (numbers .entry)) rows patterns (sidesOf (now (words .entry))) limit x y l r ⌝ }
+    ensures { λ b. ⌜ b ≡ metBy (now (numbers .entry)) rows patterns (sidesOf (now (words .entry))) limit owner x y l r ⌝ }
 {
     if x == 0 {
         return false;
@@ -70,10 +73,10 @@ fn met<'a>(
     if rows + patterns <= middle {
         return false;
     }
-    if !cited(words, limit, numbers, rows, patterns, x, l, middle) {
+    if !cited(words, limit, owner, numbers, rows, patterns, x, l, middle) {
         return false;
     }
-    cited(words, limit, numbers, rows, patterns, y, middle, r)
+    cited(words, limit, owner, numbers, rows, patterns, y, middle, r)
 }
 
 // Number k, from 0, of the four in a step's second and third words.
@@ -100,6 +103,7 @@ fn argument<'a>(
     args: &'a [u16],
     words: &'a [u64],
     limit: usize,
+    owner: u64,
     numbers: &'a [u16; 319],
     rows: usize,
     patterns: usize,
@@ -113,12 +117,13 @@ fn argument<'a>(
     requires { ⌜ limit ≤ length (now words) ⌝ }
     requires { ⌜ p + k < length (now args) ⌝ }
     requires { ⌜ q + k < length (now args) ⌝ }
-    ensures { λ b. ⌜ b ≡ citedBy (now (numbers .entry)) rows patterns (sidesOf (now (words .entry))) limit (getD (numbersIn y z) k 0) (getD (now (args .entry)) (p + k) 0) (getD (now (args .entry)) (q + k) 0) ⌝ }
+    ensures { λ b. ⌜ b ≡ citedBy (now (numbers .entry)) rows patterns (sidesOf (now (words .entry))) limit owner (getD (numbersIn y z) k 0) (getD (now (args .entry)) (p + k) 0) (getD (now (args .entry)) (q + k) 0) ⌝ }
 {
     let x = number_at(y, z, k);
     cited(
         words,
         limit,
+        owner,
         numbers,
         rows,
         patterns,
@@ -133,6 +138,7 @@ fn arguments<'a>(
     args: &'a [u16],
     words: &'a [u64],
     limit: usize,
+    owner: u64,
     numbers: &'a [u16; 319],
     rows: usize,
     patterns: usize,
@@ -146,11 +152,24 @@ fn arguments<'a>(
     requires { ⌜ limit ≤ length (now words) ⌝ }
     requires { ⌜ p + count ≤ length (now args) ⌝ }
     requires { ⌜ q + count ≤ length (now args) ⌝ }
-    ensures { λ b. ⌜ b ≡ eachBy (now (numbers .entry)) rows patterns (sidesOf (now (words .entry))) limit (numbersIn y z) 0 (argsFrom (now (args .entry)) p count) (argsFrom (now (args .entry)) q count) ⌝ }
+    ensures { λ b. ⌜ b ≡ eachBy (now (numbers .entry)) rows patterns (sidesOf (now (words .entry))) limit owner (numbersIn y z) 0 (argsFrom (now (args .entry)) p count) (argsFrom (now (args .entry)) q count) ⌝ }
 {
     let mut k: usize = 0;
     while k < count {
-        if !argument(args, words, limit, numbers, rows, patterns, y, z, p, q, k) {
+        if !argument(
+            args,
+            words,
+            limit,
+            owner,
+            numbers,
+            rows,
+            patterns,
+            y,
+            z,
+            p,
+            q,
+            k,
+        ) {
             return false;
         }
         k += 1;
@@ -165,6 +184,7 @@ fn congruent<'a>(
     args: &'a [u16; 1276],
     words: &'a [u64],
     limit: usize,
+    owner: u64,
     numbers: &'a [u16; 319],
     rows: usize,
     patterns: usize,
@@ -178,7 +198,7 @@ fn congruent<'a>(
     requires { ⌜ Keyed (now counts) (now args) (rows + patterns) ⌝ }
     requires { ⌜ l < rows + patterns ⌝ }
     requires { ⌜ r < rows + patterns ⌝ }
-    ensures { λ b. ⌜ b ≡ congruentBy (now (numbers .entry)) rows patterns (sidesOf (now (words .entry))) limit (numbersIn y z) (rowFrom (now (symbols .entry)) (now (counts .entry)) (now (args .entry)) l) (rowFrom (now (symbols .entry)) (now (counts .entry)) (now (args .entry)) r) ⌝ }
+    ensures { λ b. ⌜ b ≡ congruentBy (now (numbers .entry)) rows patterns (sidesOf (now (words .entry))) limit owner (numbersIn y z) (rowFrom (now (symbols .entry)) (now (counts .entry)) (now (args .entry)) l) (rowFrom (now (symbols .entry)) (now (counts .entry)) (now (args .entry)) r) ⌝ }
 {
     if symbols[l] != symbols[r] {
         return false;
@@ -191,6 +211,7 @@ fn congruent<'a>(
         args,
         words,
         limit,
+        owner,
         numbers,
         rows,
         patterns,
@@ -202,7 +223,7 @@ fn congruent<'a>(
     )
 }
 
-// Whether l = r follows by a kind of step with four numbers.
+// Whether l = r follows by a kind of step with an owner and four numbers.
 fn derives<'a>(
     symbols: &'a [u16; 319],
     counts: &'a [u8; 319],
@@ -210,8 +231,13 @@ fn derives<'a>(
     lefts: &'a [u16; 510],
     rights: &'a [u16; 510],
     equations: usize,
+    signs: &'a [u8; 16],
+    ls: &'a [u16; 16],
+    rs: &'a [u16; 16],
+    literals: usize,
     words: &'a [u64],
     limit: usize,
+    owner: u64,
     numbers: &'a [u16; 319],
     rows: usize,
     patterns: usize,
@@ -224,10 +250,11 @@ fn derives<'a>(
     requires { ⌜ rows + patterns ≤ 319 ⌝ }
     requires { ⌜ limit ≤ length (now words) ⌝ }
     requires { ⌜ equations ≤ 510 ⌝ }
+    requires { ⌜ literals ≤ 16 ⌝ }
     requires { ⌜ Keyed (now counts) (now args) (rows + patterns) ⌝ }
     requires { ⌜ l < rows + patterns ⌝ }
     requires { ⌜ r < rows + patterns ⌝ }
-    ensures { λ b. ⌜ b ≡ derivesBy (now (numbers .entry)) rows patterns (rowsFrom (now (symbols .entry)) (now (counts .entry)) (now (args .entry)) (rows + patterns)) (pairsFrom (now (lefts .entry)) (now (rights .entry)) equations) (sidesOf (now (words .entry))) limit kind (numbersIn y z) l r ⌝ }
+    ensures { λ b. ⌜ b ≡ derivesBy (now (numbers .entry)) rows patterns (rowsFrom (now (symbols .entry)) (now (counts .entry)) (now (args .entry)) (rows + patterns)) (pairsFrom (now (lefts .entry)) (now (rights .entry)) equations) (literalsFrom (now (signs .entry)) (now (ls .entry)) (now (rs .entry)) literals) (sidesOf (now (words .entry))) limit owner kind (numbersIn y z) l r ⌝ }
 {
     if kind == 1 {
         return paired(lefts, rights, equations, y / 4294967296, l, r);
@@ -236,12 +263,23 @@ fn derives<'a>(
         return l == r;
     }
     if kind == 3 {
-        return cited(words, limit, numbers, rows, patterns, y / 4294967296, r, l);
+        return cited(
+            words,
+            limit,
+            owner,
+            numbers,
+            rows,
+            patterns,
+            y / 4294967296,
+            r,
+            l,
+        );
     }
     if kind == 4 {
         return met(
             words,
             limit,
+            owner,
             numbers,
             rows,
             patterns,
@@ -258,6 +296,7 @@ fn derives<'a>(
             args,
             words,
             limit,
+            owner,
             numbers,
             rows,
             patterns,
@@ -266,6 +305,9 @@ fn derives<'a>(
             l,
             r,
         );
+    }
+    if kind == 6 {
+        return added(signs, ls, rs, literals, numbers, rows, owner, l, r);
     }
     false
 }
@@ -278,6 +320,10 @@ fn follows<'a>(
     lefts: &'a [u16; 510],
     rights: &'a [u16; 510],
     equations: usize,
+    signs: &'a [u8; 16],
+    ls: &'a [u16; 16],
+    rs: &'a [u16; 16],
+    literals: usize,
     numbers: &'a [u16; 319],
     rows: usize,
     patterns: usize,
@@ -288,14 +334,16 @@ fn follows<'a>(
 ) -> bool
     requires { ⌜ rows + patterns ≤ 319 ⌝ }
     requires { ⌜ equations ≤ 510 ⌝ }
+    requires { ⌜ literals ≤ 16 ⌝ }
     requires { ⌜ Keyed (now counts) (now args) (rows + patterns) ⌝ }
     requires { ⌜ i < length (now firsts) ⌝ }
     requires { ⌜ i < length (now seconds) ⌝ }
     requires { ⌜ i < length (now thirds) ⌝ }
-    ensures { λ b. ⌜ b ≡ followsBy (now (numbers .entry)) rows patterns (rowsFrom (now (symbols .entry)) (now (counts .entry)) (now (args .entry)) (rows + patterns)) (pairsFrom (now (lefts .entry)) (now (rights .entry)) equations) (stepsFrom (now (firsts .entry)) (now (seconds .entry)) (now (thirds .entry))) i ⌝ }
+    ensures { λ b. ⌜ b ≡ followsBy (now (numbers .entry)) rows patterns (rowsFrom (now (symbols .entry)) (now (counts .entry)) (now (args .entry)) (rows + patterns)) (pairsFrom (now (lefts .entry)) (now (rights .entry)) equations) (literalsFrom (now (signs .entry)) (now (ls .entry)) (now (rs .entry)) literals) (stepsFrom (now (firsts .entry)) (now (seconds .entry)) (now (thirds .entry))) i ⌝ }
 {
     let word = firsts[i];
-    if word / 72057594037927936 != 0 {
+    let owner = word / 72057594037927936;
+    if !owner_there(signs, literals, owner) {
         return false;
     }
     let l = left_side(numbers, rows, patterns, word);
@@ -314,8 +362,13 @@ fn follows<'a>(
         lefts,
         rights,
         equations,
+        signs,
+        ls,
+        rs,
+        literals,
         firsts,
         i,
+        owner,
         numbers,
         rows,
         patterns,
@@ -348,6 +401,10 @@ pub fn first_bad<'a>(
     lefts: &'a [u16; 510],
     rights: &'a [u16; 510],
     equations: usize,
+    signs: &'a [u8; 16],
+    ls: &'a [u16; 16],
+    rs: &'a [u16; 16],
+    literals: usize,
     numbers: &'a [u16; 319],
     rows: usize,
     patterns: usize,
@@ -357,8 +414,9 @@ pub fn first_bad<'a>(
 ) -> usize
     requires { ⌜ rows + patterns ≤ 319 ⌝ }
     requires { ⌜ equations ≤ 510 ⌝ }
+    requires { ⌜ literals ≤ 16 ⌝ }
     requires { ⌜ Keyed (now counts) (now args) (rows + patterns) ⌝ }
-    ensures { λ i. ⌜ Ends (followsBy (now (numbers .entry)) rows patterns (rowsFrom (now (symbols .entry)) (now (counts .entry)) (now (args .entry)) (rows + patterns)) (pairsFrom (now (lefts .entry)) (now (rights .entry)) equations) (stepsFrom (now (firsts .entry)) (now (seconds .entry)) (now (thirds .entry)))) (length (stepsFrom (now (firsts .entry)) (now (seconds .entry)) (now (thirds .entry)))) i ⌝ }
+    ensures { λ i. ⌜ Ends (followsBy (now (numbers .entry)) rows patterns (rowsFrom (now (symbols .entry)) (now (counts .entry)) (now (args .entry)) (rows + patterns)) (pairsFrom (now (lefts .entry)) (now (rights .entry)) equations) (literalsFrom (now (signs .entry)) (now (ls .entry)) (now (rs .entry)) literals) (stepsFrom (now (firsts .entry)) (now (seconds .entry)) (now (thirds .entry)))) (length (stepsFrom (now (firsts .entry)) (now (seconds .entry)) (now (thirds .entry)))) i ⌝ }
 {
     let n = shortest(firsts, seconds, thirds);
     let mut i: usize = 0;
@@ -370,6 +428,10 @@ pub fn first_bad<'a>(
             lefts,
             rights,
             equations,
+            signs,
+            ls,
+            rs,
+            literals,
             numbers,
             rows,
             patterns,

@@ -69,13 +69,13 @@ module _ (a : List ℕ) (steps : List Step) (ds es : List Conclusion) where
   Alike n = (i : ℕ) → i < n → conclusionFor (suc i) ds ≡ conclusionFor (suc i) es
 
   module _ (c : Context) (k : Clause) (alike : Alike (length (k .literals))) where
-    there : (i : ℕ) → i < length (k .literals) → Concludes c k a steps (conclusionFor (suc i) ds) (literalAt (k .literals) i)
-        → Concludes c k a steps (conclusionFor (suc i) es) (literalAt (k .literals) i)
-    there i h w = subst (λ (d : Conclusion). Concludes c k a steps d (literalAt (k .literals) i)) (alike i h) w
+    there : (i : ℕ) → i < length (k .literals) → Concludes c k a steps (suc i) (conclusionFor (suc i) ds) (literalAt (k .literals) i)
+        → Concludes c k a steps (suc i) (conclusionFor (suc i) es) (literalAt (k .literals) i)
+    there i h w = subst (λ (d : Conclusion). Concludes c k a steps (suc i) d (literalAt (k .literals) i)) (alike i h) w
 
-    back : (i : ℕ) → i < length (k .literals) → Concludes c k a steps (conclusionFor (suc i) es) (literalAt (k .literals) i)
-        → Concludes c k a steps (conclusionFor (suc i) ds) (literalAt (k .literals) i)
-    back i h w = subst (λ (d : Conclusion). Concludes c k a steps d (literalAt (k .literals) i)) (sym (alike i h)) w
+    back : (i : ℕ) → i < length (k .literals) → Concludes c k a steps (suc i) (conclusionFor (suc i) es) (literalAt (k .literals) i)
+        → Concludes c k a steps (suc i) (conclusionFor (suc i) ds) (literalAt (k .literals) i)
+    back i h w = subst (λ (d : Conclusion). Concludes c k a steps (suc i) d (literalAt (k .literals) i)) (sym (alike i h)) w
 
     verified-alike : (v : Verdict) → Verified c k a steps ds v → Verified c k a steps es v
     verified-alike v (accepts x y z) = accepts x y (λ i h. there i h (z i h))

@@ -12,20 +12,20 @@ use Rattle.meaning.specs.Replies.{none, refused, refusal, Replies}
 use Rattle.writer.specs.Claims.{Answers, lacks, replies}
 use Rattle.writer.proofs.Answers.{answers-one}
 
-pub some-ten : (text : List ℕ) → Replies narrow text none → Answers text 16383 (refused (refusal 10 0))
+pub some-ten : (text : List ℕ) → Replies narrow text none → Answers text 278527 (refused (refusal 10 0))
 some-ten text w = lacks nothing w (omega arith)
 
-pub no-none : (text : List ℕ) → Replies narrow text none → Answers text 16383 none → ⊥
+pub no-none : (text : List ℕ) → Replies narrow text none → Answers text 278527 none → ⊥
 no-none text w a =
-    let e : none ≡ refused (refusal 10 0) = answers-one text 16383 none (refused (refusal 10 0)) a (some-ten text w) in
+    let e : none ≡ refused (refusal 10 0) = answers-one text 278527 none (refused (refusal 10 0)) a (some-ten text w) in
     let z : _≡_ {A = ℕ} 0 1 = cc in
     omega arith
 
-pub some-none : (text : List ℕ) → Replies narrow text none → Answers text 16384 none
+pub some-none : (text : List ℕ) → Replies narrow text none → Answers text 278528 none
 some-none text w = replies nothing w (omega arith)
 
-pub no-ten : (text : List ℕ) → Replies narrow text none → Answers text 16384 (refused (refusal 10 0)) → ⊥
+pub no-ten : (text : List ℕ) → Replies narrow text none → Answers text 278528 (refused (refusal 10 0)) → ⊥
 no-ten text w a =
-    let e : refused (refusal 10 0) ≡ none = answers-one text 16384 (refused (refusal 10 0)) none a (some-none text w) in
+    let e : refused (refusal 10 0) ≡ none = answers-one text 278528 (refused (refusal 10 0)) none a (some-none text w) in
     let z : _≡_ {A = ℕ} 0 1 = cc in
     omega arith

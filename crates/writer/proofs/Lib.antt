@@ -3,6 +3,7 @@ pub mod Made
 pub mod Placing
 pub mod Showing
 pub mod Drawing
+pub mod Turning
 pub mod Seeking
 pub mod Writing
 pub mod Answers

@@ -9,6 +9,7 @@ use Prim.Native.Nat.{ℕ}
 use native.Mathlib.Omega.{arith}
 use borrow.Author.Needs.{needs}
 use lib.ListN.{length}
+use Rattle.meaning.specs.Equality.{Promise}
 use Rattle.meaning.specs.Rules.{Found, found, nothing}
 use Rattle.meaning.specs.Replies.{breach, placesOf}
 use Rattle.ledger.specs.declared.ContextColumns.{ContextColumns}
@@ -20,7 +21,7 @@ use Rattle.search.specs.declared.Kind.the-variants as S
 use Rattle.search.specs.declared.Reply.{Reply as Searched}
 use Rattle.finder.specs.Claims.{said, asked, toldBy, Asks}
 use Rattle.finder.specs.declared.Outcome.the-variants as O
-use Rattle.writer.specs.Drawing.{bareWith, Broken, Drawn, hitBy, Seekable, Sought}
+use Rattle.writer.specs.Drawing.{bareWith, Broken, Draws, hitBy, Seekable, Sought}
 use Rattle.writer.specs.declared.Grounds.{Grounds}
 use Rattle.writer.specs.declared.Hit.{Hit}
 use Rattle.writer.specs.declared.Hit.the-variants as H
@@ -38,6 +39,9 @@ hit-unfit kind e = rw e
 module _ (c : ContextColumns) (table : List ℕ) (k : ClauseColumns) (w : Seekable c table k) where
   pub seek-asks : Asks c k
   seek-asks = w .asks
+
+  pub seek-closed : Promise (said c) 255 table
+  seek-closed = w .closed
 
   module _ (x : Searched) (search-is : x ≡ answerOf (foundBy (said c) table (asked k))) (hit : Hit) (hit-is : hit ≡ hitBy (x .kind)) where
     hit-found : (q : Found) → foundBy (said c) table (asked k) ≡ q → (hit ≡ hitBy (answerOf q .kind)) × (x .places ≡ answerOf q .places)
@@ -81,11 +85,11 @@ module _ (c : ContextColumns) (table : List ℕ) (k : ClauseColumns) (w : Seekab
                 finds = f;
                 told = refl;
                 places = hit-found nothing f .1;
-                leaves = λ room. record { steps = refl; literals = refl; conclusions = refl; first = refl; second = refl; third = refl };
+                leaves = record { steps = refl; literals = refl; conclusions = refl; first = refl; second = refl; third = refl };
               }
 
       pub seek-drawn : (n : ℕ) → hit ≡ H.Breach n → {y : Grounds} {firsts′ seconds′ thirds′ : List ℕ}
-          → Drawn c k n (x .places) firsts seconds thirds y firsts′ seconds′ thirds′
+          → Draws c k n (x .places) firsts seconds thirds y firsts′ seconds′ thirds′
           → Sought c table k firsts seconds thirds y firsts′ seconds′ thirds′
       seek-drawn n e d =
           let t : (a : List ℕ) × (foundBy (said c) table (asked k) ≡ found a) × (n ≡ length a) × (x .places ≡ placesOf (breach a)) = told-found n e in
@@ -97,4 +101,4 @@ module _ (c : ContextColumns) (table : List ℕ) (k : ClauseColumns) (w : Seekab
             leaves = d .shown;
           }
 
-pub ruleset mine = (needs, hit-breach, hit-clear, hit-unfit, seek-asks, seek-broken, seek-clear, seek-drawn)
+pub ruleset mine = (needs, hit-breach, hit-clear, hit-unfit, seek-asks, seek-closed, seek-broken, seek-clear, seek-drawn)

@@ -1,150 +1,158 @@
--- What was written for a breach shows it.
---     used-alike    whether a step is used rests on the conclusions alone
---     drawn-few     the steps before the sweep fit their column
---     drawn-shown   the columns and conclusions that are left
+-- What is written for a breach, literal by literal, and that it shows the breach.
+--     used-alike              whether a step is used rests on the conclusions alone
+--     Far                     what holds after so many literals
+--     far-to                  it does, where the column of each of them holds numbers of 16 bits
+--     far-most, far-kinded    a literal's steps fit their column, and each kind a byte
+--     far-few                 there is a number for each step written after them
+--     drawn-shown             the columns and conclusions that are left
 -- Assumes nothing.
-use mathlib.Core.List.{List}
-use mathlib.Core.Path.{_≡_, refl, sym, _∙_, subst}
-use mathlib.Core.Logic.{inl, inr}
-use Prim.Native.Nat.{ℕ, suc, _+_, _*_, _≤_, _<_}
+use mathlib.Core.List.{List, [], append-nil}
+use mathlib.Core.Path.{_≡_, refl, ap, sym, _∙_, subst}
+use Prim.Native.Nat.{ℕ, zero, suc, _≤_, _<_}
 use native.Mathlib.Omega.{arith}
-use lib.ListN.{length, getD, drop, replicate, length-replicate}
-use Rattle.meaning.specs.Context.{Context, differences}
+use lib.ListN.{length, getD, take, replicate}
+use Rattle.meaning.specs.Context.{Term, Context}
 use Rattle.meaning.specs.Rules.{variables, Clause, AllHold}
 use Rattle.meaning.specs.Formed.{Formed}
-use Rattle.meaning.specs.Grounds.{Step, Conclusion, conclusionFor, Each, instancesOf, Verified, accepted}
-use Rattle.meaning.specs.Checking.{entries, numbered}
+use Rattle.meaning.specs.Grounds.{Step, stepAt, Conclusion, conclusionFor, Each, instancesOf, literalAt, Derives, by-statement, by-reflexivity, by-symmetry, by-transitivity, by-congruence, by-addition, Verified, accepted}
+use Rattle.meaning.specs.Checking.{entries}
 use Rattle.verifier.specs.declared.Conclusions.{Conclusions}
+use Rattle.verifier.proofs.Judging.{conclusions-at}
 use Rattle.judging.specs.Claims.{concludedIn}
 use Rattle.numbering.specs.Entries.{Filled}
 use Rattle.numbering.specs.declared.table.Table.{Table}
-use Rattle.grounding.specs.Draft.{countIn}
-use Rattle.grounding.specs.Concluding.{Ending}
-use Rattle.grounding.specs.Sweeping.{ranked, Words}
-use Rattle.grounding.specs.Grounds.{concluded, markedBy, stepsWritten, endWritten, Used, by-step, by-end}
-use Rattle.grounding.proofs.Breaches.{breach-accepted, breach-few, breach-used, breach-fit, breach-marks, breach-past, breach-many, breach-written, breach-rest, breach-long}
-use Rattle.concluding.proofs.Places.{ended-orientation}
-use Rattle.emitting.specs.Emitting.{Emits}
-use Rattle.emitting.specs.Ends.{Concluded}
-use Rattle.emitting.proofs.Concluding.{ends-said}
+use Rattle.grounding.specs.Draft.{countIn, stepOf, stepIn, draft}
+use Rattle.grounding.specs.Concluding.{ownerOf}
+use Rattle.grounding.proofs.Drafts.{Follow, length-draft}
+use Rattle.batches.specs.Sending.{stepsIn as stepsOf}
+use Rattle.batches.specs.Drawing.{Drawn, drawn, endWritten, Used, by-step, by-end}
+use Rattle.batches.proofs.Marks.{draft-at}
+use Rattle.batches.proofs.Words.{Small}
+use Rattle.batches.proofs.Draws.{Drawing, end-columns}
+use Rattle.batches.proofs.Breaches.{breach-said, breach-start, breach-next, breach-accepted}
+use Rattle.emitting.specs.Emitting.{Kinded}
 use Rattle.finder.specs.declared.Outcome.{Outcome}
-use Rattle.writer.specs.Claims.{most, space, stepsIn, Shown}
-use Rattle.writer.specs.Drawing.{sizeOf, settledOf, endingOf}
+use Rattle.writer.specs.Claims.{most, space, Shown}
+use Rattle.writer.specs.Drawing.{sizeOf, settledOf, saidFor, saidOf, turnsOf, endsWith}
 
 used-alike : (steps : List Step) (f g : ℕ → Conclusion) (n p : ℕ) → ((j : ℕ) → j < n → f j ≡ g j) → Used steps f n p → Used steps g n p
-used-alike steps f g n p e (by-step i h l k j b q) = by-step i h l k j b q
-used-alike steps f g n p e (by-end j h (inl q)) = by-end j h (inl (subst (λ (d : Conclusion). d .first ≡ suc p) (e j h) q))
-used-alike steps f g n p e (by-end j h (inr q)) = by-end j h (inr (subst (λ (d : Conclusion). d .second ≡ suc p) (e j h) q))
+used-alike steps f g n p e (by-step w) = by-step w
+used-alike steps f g n p e (by-end j h q) = by-end j h (subst (λ (d : Conclusion). d .first ≡ suc p) (e j h) q)
+
+-- ---- kinds
+
+module _ (c : Context) (k : Clause) (a : List ℕ) where
+  kind-small : (earlier : List Step) (s : Step) {t u : Term} → Derives c k a earlier s t u → s .kind < 256
+  kind-small earlier s (by-statement e w) = omega arith
+  kind-small earlier s (by-reflexivity e w) = omega arith
+  kind-small earlier s (by-symmetry e w) = omega arith
+  kind-small earlier s (by-transitivity e m v w) = omega arith
+  kind-small earlier s (by-congruence e f ts us p q w) = omega arith
+  kind-small earlier s (by-addition e w) = omega arith
+
+  follow-kinded : (rows from owner : ℕ) (cells : List ℕ) → Follow c k a (draft rows from owner cells) → Kinded cells
+  unfolding stepIn stepOf
+  follow-kinded rows from owner cells follow =
+      record {
+        kinds = λ i h.
+            subst (λ (s : Step). s .kind < 256) (draft-at rows from owner cells i h)
+            (kind-small (take i (draft rows from owner cells)) (stepAt (draft rows from owner cells) i)
+            (follow i (omega (arith, length-draft rows from owner cells)) .derives));
+      }
+
+-- ---- one literal after the other
 
 module _ (c : Context) (k : Clause) (a : List ℕ) (formed : Formed c k)
     (chosen : Each (variables (k .patterns)) (λ v. (v < length a) × (getD a v 0 < length (c .rows)))) (hold : AllHold c (instancesOf c k a) (k .literals)) (t : Table)
     (filled : Filled (entries (c .rows) a (k .patterns)) t (sizeOf c k)) (fewRows : length (c .rows) ≤ 255) (fewPatterns : length (k .patterns) ≤ 64)
-    (fewLiterals : length (k .literals) ≤ 16) where
-  few : sizeOf c k ≤ 319
-  few = omega (arith, fewRows, fewPatterns)
+    (fewLiterals : length (k .literals) ≤ 16) (firsts seconds thirds : List ℕ) (room : most ≤ space firsts seconds thirds) where
+  room₁ : 112320 ≤ length firsts
+  room₁ = omega (arith, room)
 
-  abbrev e : Ending
-  e = endingOf c k t
+  room₂ : 112320 ≤ length seconds
+  room₂ = omega (arith, room)
 
-  abbrev count : ℕ
-  count = countIn (e .cells)
+  room₃ : 112320 ≤ length thirds
+  room₃ = omega (arith, room)
 
-  abbrev m : ℕ
-  m = length (k .literals)
+  abbrev to : ℕ → Drawn
+  to j = turnsOf c k t j firsts seconds thirds
 
-  abbrev news₀ : List ℕ
-  news₀ = ranked (markedBy e m) count .marks
+  abbrev pub Far : ℕ → Type 0
+  Far j = Drawing c k a (settledOf c k t) firsts seconds thirds j (to j)
 
-  abbrev steps : List Step
-  steps = stepsWritten (length (c .rows)) e m
+  far-start : Far 0
+  unfolding turnsOf settledOf
+  far-start = breach-start c k a formed chosen hold t filled fewRows fewPatterns fewLiterals firsts seconds thirds room₁ room₂ room₃
 
-  pub drawn-few : count ≤ 16384
-  unfolding endingOf settledOf
-  drawn-few = breach-fit c k a formed chosen hold t filled few fewLiterals
+  far-next : (j : ℕ) → j < length (k .literals) → Small (saidOf c k t j (to j .cells) .cells) → Far j → Far (suc j)
+  unfolding turnsOf settledOf saidFor saidOf
+  far-next = breach-next c k a formed chosen hold t filled fewRows fewPatterns fewLiterals firsts seconds thirds room₁ room₂ room₃
 
-  few-steps : length steps ≤ 7082
-  unfolding endingOf settledOf
-  few-steps = breach-few c k a formed chosen hold t filled few fewLiterals
+  pub far-to : (j : ℕ) → j ≤ length (k .literals) → ((i : ℕ) → i < j → Small (saidOf c k t i (to i .cells) .cells)) → Far j
+  far-to zero h small = far-start
+  far-to (suc j) h small = far-next j (omega arith) (small j (omega arith)) (far-to j (omega arith) (λ i l. small i (omega arith)))
 
-  oriented : (j : ℕ) → j < m → getD (e .ends) (j * 4 + 3) 0 ≤ 1
-  unfolding endingOf concluded
-  oriented =
-      ended-orientation (settledOf c k t .table) (t .numbers) (length (c .rows)) (numbered (t .numbers) (differences c)) (k .literals)
-      (record { cells = settledOf c k t .cells; ends = replicate 64 0 })
-      (length-replicate {A = ℕ} 64 0)
-      m
-      fewLiterals
+  module _ (j : ℕ) (h : j < length (k .literals)) (w : Far j) where
+    pub far-most : countIn (saidOf c k t j (to j .cells) .cells) ≤ 16384
+    unfolding settledOf saidFor saidOf
+    far-most = omega (arith, breach-said c k a formed chosen hold t filled fewRows fewPatterns fewLiterals j h (to j .cells) (w .under) .most)
 
-  module _ (d : Conclusions) (concludes : Concluded (e .ends) news₀ m d) where
-    said : (j : ℕ) → j < m → conclusionFor (suc j) (concludedIn d) ≡ endWritten e m j
-    unfolding endingOf settledOf endWritten
+    pub far-kinded : Kinded (saidOf c k t j (to j .cells) .cells)
+    unfolding settledOf saidFor saidOf
+    far-kinded =
+        follow-kinded c k a (length (c .rows)) (countIn (settledOf c k t .cells)) (ownerOf j (literalAt (k .literals) j)) (saidOf c k t j (to j .cells) .cells)
+        (breach-said c k a formed chosen hold t filled fewRows fewPatterns fewLiterals j h (to j .cells) (w .under) .follow)
+
+    pub far-few : to j .out .next ≤ 262144
+    far-few = omega (arith, w .most, fewLiterals)
+
+  -- ---- all of them
+
+  module _ (small : (j : ℕ) → j < length (k .literals) → Small (saidOf c k t j (to j .cells) .cells)) where
+    abbrev m : ℕ
+    m = length (k .literals)
+
+    abbrev end : Drawn
+    end = to m
+
+    abbrev steps : List Step
+    steps = stepsOf (end .out)
+
+    abbrev d : Conclusions
+    d = endsWith (end .ends) (end .differences)
+
+    done : Far m
+    done = far-to m (omega arith) small
+
+    said : (j : ℕ) → j < m → conclusionFor (suc j) (concludedIn d) ≡ endWritten end j
+    unfolding endsWith
     said j h =
-        ends-said (markedBy e m) (breach-marks c k a formed chosen hold t filled few fewLiterals) count drawn-few (breach-past c k a formed chosen hold t filled few fewLiterals)
-        (e .ends)
-        m
-        d
-        fewLiterals
-        concludes
-        j
-        h
-        (oriented j h)
+        ap (conclusionFor (suc j)) (sym (append-nil (concludedIn d)))
+        ∙ conclusions-at (end .ends) (replicate 16 0) (end .differences) (replicate 16 0) 16 j [] (omega (arith, fewLiterals))
+        ∙ end-columns end j
 
     verified : Verified c k a steps (concludedIn d) accepted
-    unfolding endingOf settledOf
-    verified = breach-accepted c k a formed chosen hold t filled few fewLiterals (concludedIn d) said
+    unfolding turnsOf settledOf drawn
+    verified =
+        breach-accepted c k a formed chosen hold t filled fewRows fewPatterns fewLiterals firsts seconds thirds room₁ room₂ room₃ done (concludedIn d) said
 
-    used : (p : ℕ) → p < length steps → Used steps (λ j. conclusionFor (suc j) (concludedIn d)) m p
-    unfolding endingOf settledOf
-    used p h =
-        used-alike steps (endWritten e m) (λ j. conclusionFor (suc j) (concludedIn d)) m p (λ j l. sym (said j l))
-        (breach-used c k a formed chosen hold t filled few fewLiterals p h)
+    used : (p : ℕ) → p < end .out .next → Used steps (λ j. conclusionFor (suc j) (concludedIn d)) m p
+    used p h = used-alike steps (endWritten end) (λ j. conclusionFor (suc j) (concludedIn d)) m p (λ j l. sym (said j l)) (done .used p h)
 
-    module _ (firsts seconds thirds firsts′ seconds′ thirds′ : List ℕ) (room : most ≤ space firsts seconds thirds)
-        (emits : Emits (length (c .rows)) (e .cells) news₀ count (record { firsts = firsts; seconds = seconds; thirds = thirds }) firsts′ seconds′ thirds′) (n : ℕ)
-        (many : n ≡ ranked (markedBy e m) count .next) where
-      abbrev w : Words
-      w = record { firsts = firsts; seconds = seconds; thirds = thirds }
+    few : end .out .next ≤ most
+    few = omega (arith, done .most, fewLiterals)
 
-      room₁ : count ≤ length firsts
-      room₁ = omega (arith, drawn-few, room)
-
-      room₂ : count ≤ length seconds
-      room₂ = omega (arith, drawn-few, room)
-
-      room₃ : count ≤ length thirds
-      room₃ = omega (arith, drawn-few, room)
-
-      counted : n ≡ length steps
-      unfolding endingOf settledOf
-      counted = many ∙ breach-many c k a formed chosen hold t filled few fewLiterals
-
-      written : stepsIn n firsts′ seconds′ thirds′ ≡ steps
-      unfolding endingOf settledOf
-      written =
-          rw (emits .columns .first, emits .columns .second, emits .columns .third)
-          (breach-written c k a formed chosen hold t filled few fewLiterals fewRows fewPatterns (emits .narrow) w room₁ room₂ room₃ n counted)
-
-      rest : (drop n firsts′ ≡ drop n firsts) × (drop n seconds′ ≡ drop n seconds) × (drop n thirds′ ≡ drop n thirds)
-      unfolding endingOf settledOf
-      rest =
-          rw (emits .columns .first, emits .columns .second, emits .columns .third)
-          (breach-rest c k a formed chosen hold t filled few fewLiterals fewRows fewPatterns (emits .narrow) w room₁ room₂ room₃ n counted)
-
-      long : (length firsts′ ≡ length firsts) × (length seconds′ ≡ length seconds) × (length thirds′ ≡ length thirds)
-      unfolding endingOf settledOf
-      long =
-          rw (emits .columns .first, emits .columns .second, emits .columns .third)
-          (breach-long c k a formed chosen hold t filled few fewLiterals fewRows fewPatterns (emits .narrow) w room₁ room₂ room₃)
-
-      pub drawn-shown : (o : Outcome) → Shown firsts seconds thirds (record { outcome = o; places = a; steps = n; literals = m; conclusions = d }) firsts′ seconds′ thirds′ c k
-      drawn-shown o =
-          record {
-            literals = refl;
-            few = omega (arith, counted, few-steps);
-            verified = subst (λ (s : List Step). Verified c k a s (concludedIn d) accepted) (sym written) verified;
-            used = λ p h.
-                subst (λ (s : List Step). Used s (λ j. conclusionFor (suc j) (concludedIn d)) m p) (sym written) (used p (omega (arith, counted)));
-            first = record { long = long .0; rest = rest .0 };
-            second = record { long = long .1; rest = rest .1 };
-            third = record { long = long .2; rest = rest .2 };
-          }
+    pub drawn-shown : (o : Outcome)
+        → Shown firsts seconds thirds (record { outcome = o; places = a; steps = end .out .next; literals = m; conclusions = d }) (end .out .firsts) (end .out .seconds) (end .out .thirds) c k
+    unfolding stepsOf
+    drawn-shown o =
+        record {
+          literals = refl;
+          few = few;
+          verified = verified;
+          used = used;
+          first = record { long = done .long₁; rest = done .rest₁ };
+          second = record { long = done .long₂; rest = done .rest₂ };
+          third = record { long = done .long₃; rest = done .rest₃ };
+        }

@@ -26,8 +26,8 @@ use Rattle.writer.specs.Claims.{most, space, refuses, lacks, replies, Sh
 use Rattle.writer.specs.Drawing.{bareWith, refusedWith, Seekable, LeavesFor, Sought}
 use Rattle.writer.specs.declared.Grounds.{Grounds}
 
-write-room : (firsts seconds thirds : List ℕ) (b : Bool) → b ≡ ltb (space firsts seconds thirds) most → b ≡ false → most ≤ space firsts seconds thirds
-write-room firsts seconds thirds b e h = ltb-false (space firsts seconds thirds) most (sym e ∙ h)
+pub write-room : (firsts seconds thirds : List ℕ) (b : Bool) → b ≡ false → b ≡ ltb (space firsts seconds thirds) most → most ≤ space firsts seconds thirds
+write-room firsts seconds thirds b h e = ltb-false (space firsts seconds thirds) most (sym e ∙ h)
 
 module _ (text : List ℕ) (p : Prepared) (prepares : Prepares text p) (firsts seconds thirds : List ℕ) where
   pub write-refused : (x : Refusal) → p .answer ≡ A.Refused x → (y : Grounds) → y ≡ refusedWith x → Writes text firsts seconds thirds y firsts seconds thirds
@@ -80,7 +80,7 @@ module _ (text : List ℕ) (p : Prepared) (prepares : Prepares text p) (firsts s
         (judged-breach (stands .what .ledger .context) (stands .what .clause) a (breach a) refl (subst (λ (y : Reading). RepliesTo y (breach a)) (stands .whole) (replied (found a) e)))
 
     pub write-seekable : Seekable (p .context) (p .table) (p .clause)
-    write-seekable = record { asks = ready-asks text p prepares ready; breach = breach-said }
+    write-seekable = record { asks = ready-asks text p prepares ready; closed = prepares .closed; breach = breach-said }
 
     pub write-sought : (b : Bool) → b ≡ ltb (space firsts seconds thirds) most → b ≡ false → {y : Grounds} {firsts′ seconds′ thirds′ : List ℕ}
         → Sought (p .context) (p .table) (p .clause) firsts seconds thirds y firsts′ seconds′ thirds′
@@ -88,10 +88,10 @@ module _ (text : List ℕ) (p : Prepared) (prepares : Prepares text p) (firsts s
     write-sought b e h {y} {firsts′} {seconds′} {thirds′} w =
         record {
           reply = replyOf (w .what);
-          answers = replies (w .what) (replied (w .what) (w .finds)) (write-room firsts seconds thirds b e h);
+          answers = replies (w .what) (replied (w .what) (w .finds)) (write-room firsts seconds thirds b h e);
           told = w .told;
           places = w .places;
-          leaves = leaves (w .what) (w .leaves (write-room firsts seconds thirds b e h));
+          leaves = leaves (w .what) (w .leaves);
         }
       where
         leaves : (q : Found) → LeavesFor firsts seconds thirds y firsts′ seconds′ thirds′ c k q → Leaves firsts seconds thirds y firsts′ seconds′ thirds′ text (replyOf q)
@@ -103,4 +103,4 @@ module _ (text : List ℕ) (p : Prepared) (prepares : Prepares text p) (firsts s
             }
         leaves nothing l = l
 
-pub ruleset mine = (needs, write-refused, write-cramped, write-seekable, write-sought)
+pub ruleset mine = (needs, write-room, write-refused, write-cramped, write-seekable, write-sought)

@@ -23,11 +23,11 @@ use Rattle.meaning.specs.GroundColumns.{stepsFrom}
 use Rattle.verifier.specs.declared.Conclusions.{Conclusions}
 use Rattle.judging.specs.Claims.{concludedIn}
 use Rattle.finder.specs.Claims.{toldBy, toldOf}
-use Rattle.grounding.specs.Grounds.{Used}
+use Rattle.batches.specs.Drawing.{Used}
 use Rattle.writer.specs.declared.Grounds.{Grounds}
 
 abbrev pub most : ℕ
-most = 16384
+most = 278528
 
 abbrev pub space : List ℕ → List ℕ → List ℕ → ℕ
 space firsts seconds thirds = min (length firsts) (min (length seconds) (length thirds))

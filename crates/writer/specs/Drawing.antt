@@ -4,22 +4,30 @@
 --     Tabled                        and the table of all entries
 --     Fits                          what the functions below ask of columns and table
 --     sizeOf                        the number of entries
---     settledOf, endingOf           closed classes with their steps, and a conclusion for each literal
---     Swept                         the new numbers of the steps that stay, and how many stay
---     PutDown                       the steps that stay in the columns, and the conclusions
---     Drawn                         the answer for a breach, and the columns afterwards, where there is room
+--     Apart                         the stated differences, as pairs of numbers
+--     settledOf                     closed classes with their steps
+--     saidFor, saidOf               what is said for a literal, and for one of the clause
+--     turnOf, turnsOf               what is written for one literal, and for the first ones
+--     Shares                        the closed classes and the number of their steps, at hand
+--     Stands                        what is written so far, at hand
+--     Sayable, Turned               what a literal's turn asks, and what it leaves
+--     Drawable, Drew                what the turns of all literals ask, and what they leave
+--     endsWith                      a conclusion for each literal
+--     Draws                         the answer for a breach, and the columns afterwards
 --     hitBy                         a breach of so many variables, or none
 --     Seekable, Sought              what the search asks, and the answer for what was found
 -- Assumes nothing.
+use mathlib.Core.Bool.{false}
 use mathlib.Core.List.{List}
 use mathlib.Core.Path.{_≡_}
 use Prim.Native.Nat.{ℕ, _+_, _≤_, _<_}
 use lib.ListN.{length, getD, replicate}
-use Rattle.meaning.specs.Context.{Context, equations, differences}
-use Rattle.meaning.specs.Rules.{variables, rangeOf, Clause, AllHold, Breach, Found, found, nothing}
+use Rattle.meaning.specs.Context.{Row, Context, equations, differences}
+use Rattle.meaning.specs.Equality.{Promise}
+use Rattle.meaning.specs.Rules.{variables, rangeOf, Literal, Clause, AllHold, Breach, Found, found, nothing}
 use Rattle.meaning.specs.Replies.{replyOf, placesOf}
-use Rattle.meaning.specs.Grounds.{Each, instancesOf}
-use Rattle.meaning.specs.Columns.{rowsFrom}
+use Rattle.meaning.specs.Grounds.{Each, instancesOf, literalAt}
+use Rattle.meaning.specs.Columns.{rowsFrom, statementsFrom}
 use Rattle.meaning.specs.Checking.{entries, numbered}
 use Rattle.ledger.specs.declared.ContextColumns.{ContextColumns}
 use Rattle.ledger.specs.declared.ClauseColumns.{ClauseColumns}
@@ -30,19 +38,20 @@ use Rattle.search.specs.declared.Kind.the-variants as S
 use Rattle.finder.specs.Claims.{said, asked, toldBy, toldOf, Asks}
 use Rattle.finder.specs.declared.Outcome.{Outcome}
 use Rattle.finder.specs.declared.Outcome.the-variants as O
+use Rattle.verifier.specs.declared.Conclusions.{Conclusions}
 use Rattle.numbering.specs.Keys.{Keyed}
 use Rattle.numbering.specs.Entries.{Filled}
+use Rattle.numbering.specs.Pairs.{pairsOf, Held}
+use Rattle.numbering.specs.declared.pairs.Pairs.{Pairs}
 use Rattle.numbering.specs.declared.table.Table.{Table}
 use Rattle.grounding.specs.Draft.{countIn}
 use Rattle.grounding.specs.Classes.{State}
 use Rattle.grounding.specs.Rounds.{started, stated, rounds}
-use Rattle.grounding.specs.Concluding.{Ending}
-use Rattle.grounding.specs.Sweeping.{ranked}
-use Rattle.grounding.specs.Grounds.{concluded, markedBy}
-use Rattle.emitting.specs.Emitting.{Emits}
-use Rattle.emitting.specs.Ends.{Concluded}
+use Rattle.grounding.specs.Concluding.{Said, said as sayOf, resumed}
+use Rattle.batches.specs.Drawing.{Drawn, blankDrawn, drawOne, drawnTo}
+use Rattle.batches.proofs.Words.{Small}
+use Rattle.emitting.specs.Emitting.{Kinded, Holds}
 use Rattle.writer.specs.Claims.{most, space, noConclusions, Bare, Shown}
-use Rattle.writer.specs.declared.Down.{Down}
 use Rattle.writer.specs.declared.Hit.{Hit}
 use Rattle.writer.specs.declared.Hit.the-variants as H
 use Rattle.writer.specs.declared.Grounds.{Grounds}
@@ -71,32 +80,85 @@ pub record Fits (c : ContextColumns) (k : ClauseColumns) (t : Table) : Type 0 wh
   pub asks : Asks c k
   pub keyed : Keyed (t .counts) (t .args) (c .rows + k .patterns)
 
+-- the stated differences, as pairs of numbers
+pub record Apart (c : ContextColumns) (t : Table) (d : Pairs) : Type 0 where
+  pub held : Held (numbered (t .numbers) (pairsOf false (statementsFrom (c .kinds) (c .lefts) (c .rights) (c .statements)))) (d .lefts) (d .rights) (d .count)
+
 -- ---- what is drawn of a table
 
 module _ (c : Context) (k : Clause) (t : Table) where
+  abbrev keys : List Row
+  keys = rowsFrom (t .symbols) (t .counts) (t .args) (sizeOf c k)
+
+  abbrev diffs : List (ℕ × ℕ)
+  diffs = numbered (t .numbers) (differences c)
+
   unfoldable pub settledOf : State
-  settledOf =
-      rounds (sizeOf c k) (rowsFrom (t .symbols) (t .counts) (t .args) (sizeOf c k)) 8192
-      (stated (sizeOf c k) (numbered (t .numbers) (equations c)) (started (t .numbers) (sizeOf c k)))
+  settledOf = rounds (sizeOf c k) keys 8192 (stated (sizeOf c k) (numbered (t .numbers) (equations c)) (started (t .numbers) (sizeOf c k)))
 
-  unfoldable pub endingOf : Ending
-  endingOf = concluded settledOf (t .numbers) (length (c .rows)) (numbered (t .numbers) (differences c)) (k .literals)
+  -- in a column that begins with the shared steps
+  unfoldable pub saidFor : Literal → List ℕ → Said
+  saidFor l cells = sayOf (sizeOf c k) keys (t .numbers) (length (c .rows)) diffs l (resumed settledOf cells)
 
--- the marks of the steps that stay by n conclusions have become new numbers, and so many stay
-pub record Swept (cells ends : List ℕ) (n : ℕ) (marks : List ℕ) (many : ℕ) : Type 0 where
-  pub news : marks ≡ ranked (markedBy (record { cells = cells; ends = ends }) n) (countIn cells) .marks
-  pub steps : many ≡ ranked (markedBy (record { cells = cells; ends = ends }) n) (countIn cells) .next
+  -- literal j, counted from 0
+  unfoldable pub saidOf : ℕ → List ℕ → Said
+  saidOf j cells = saidFor (literalAt (k .literals) j) cells
 
-pub record PutDown (cells ends : List ℕ) (rows n : ℕ) (firsts seconds thirds : List ℕ) (r : Down) (firsts′ seconds′ thirds′ : List ℕ) : Type 0 where
+  unfoldable pub turnOf : ℕ → Drawn → Drawn
+  turnOf = drawOne (sizeOf c k) keys (t .numbers) (length (c .rows)) diffs settledOf (k .literals)
+
+  -- the first j literals, in columns of words
+  unfoldable pub turnsOf : ℕ → List ℕ → List ℕ → List ℕ → Drawn
+  turnsOf j firsts seconds thirds =
+      drawnTo (sizeOf c k) keys (t .numbers) (length (c .rows)) diffs settledOf (k .literals) j
+      (blankDrawn (settledOf .cells) firsts seconds thirds)
+
+  -- the closed classes, and how many steps they have
+  pub record Shares (classes : List ℕ) (from : ℕ) : Type 0 where
+    pub closed : classes ≡ settledOf .table
+    pub many : from ≡ countIn (settledOf .cells)
+
+-- a column, new numbers, words and conclusions are those
+pub record Stands (cells news : List ℕ) (next : ℕ) (firsts seconds thirds ends differences : List ℕ) (d : Drawn) : Type 0 where
+  pub column : cells ≡ d .cells
+  pub out : Holds news next firsts seconds thirds (d .out)
+  pub steps : ends ≡ d .ends
+  pub stated : differences ≡ d .differences
+
+-- the literal's steps fit their column, and there is a number for each step written after them
+pub record Sayable (c : ContextColumns) (k : ClauseColumns) (t : Table) (j : ℕ) (cells : List ℕ) (next : ℕ) : Type 0 where
+  pub fits : Fits c k t
+  pub inside : j < k .literals
+  pub most : countIn (saidOf (said c) (asked k) t j cells .cells) ≤ 16384
+  pub kinded : Kinded (saidOf (said c) (asked k) t j cells .cells)
+  pub few : next ≤ 262144
+
+-- literal j, and the numbers of its column are of 16 bits
+pub record Turned (c : Context) (k : Clause) (t : Table) (j : ℕ) (d : Drawn) (cells news : List ℕ) (next : ℕ) (firsts seconds thirds ends differences : List ℕ) : Type 0 where
+  pub stands : Stands cells news next firsts seconds thirds ends differences (turnOf c k t j d)
+  pub small : Small (saidOf c k t j (d .cells) .cells)
+
+-- a table of all entries for a breach, and room for the steps
+pub record Drawable (c : ContextColumns) (k : ClauseColumns) (t : Table) (firsts seconds thirds : List ℕ) : Type 0 where
+  pub places : List ℕ
+  pub tabled : Tabled c k places t
+  pub room : most ≤ space firsts seconds thirds
+
+-- all literals, in columns of words, and the numbers of each one's column are of 16 bits
+pub record Drew (c : Context) (k : Clause) (t : Table) (firsts seconds thirds : List ℕ) (next : ℕ) (firsts′ seconds′ thirds′ ends differences : List ℕ) : Type 0 where
+  pub cells : List ℕ
   pub news : List ℕ
-  pub swept : Swept cells ends n news (r .steps)
-  pub emits : Emits rows cells news (countIn cells) (record { firsts = firsts; seconds = seconds; thirds = thirds }) firsts′ seconds′ thirds′
-  pub concludes : Concluded ends news n (r .conclusions)
+  pub stands : Stands cells news next firsts′ seconds′ thirds′ ends differences (turnsOf c k t (length (k .literals)) firsts seconds thirds)
+  pub small : (j : ℕ) → j < length (k .literals) → Small (saidOf c k t j (turnsOf c k t j firsts seconds thirds .cells) .cells)
 
-pub record Drawn (c : ContextColumns) (k : ClauseColumns) (n : ℕ) (a firsts seconds thirds : List ℕ) (r : Grounds) (firsts′ seconds′ thirds′ : List ℕ) : Type 0 where
+-- second steps and orientations are not read
+unfoldable pub endsWith : List ℕ → List ℕ → Conclusions
+endsWith ends differences = record { firsts = ends; seconds = replicate 16 0; differences = differences; orientations = replicate 16 0 }
+
+pub record Draws (c : ContextColumns) (k : ClauseColumns) (n : ℕ) (a firsts seconds thirds : List ℕ) (r : Grounds) (firsts′ seconds′ thirds′ : List ℕ) : Type 0 where
   pub outcome : r .outcome ≡ O.Breach n
   pub places : r .places ≡ a
-  pub shown : most ≤ space firsts seconds thirds → Shown firsts seconds thirds r firsts′ seconds′ thirds′ (said c) (asked k)
+  pub shown : Shown firsts seconds thirds r firsts′ seconds′ thirds′ (said c) (asked k)
 
 -- ---- the search
 
@@ -105,9 +167,10 @@ hitBy (S.Breach n) = H.Breach n
 hitBy S.Clear = H.Clear
 hitBy S.Unfit = H.Clear
 
--- well-formed columns, and a table by which what is found is a breach
+-- well-formed columns, and their closing, by which what is found is a breach
 pub record Seekable (c : ContextColumns) (table : List ℕ) (k : ClauseColumns) : Type 0 where
   pub asks : Asks c k
+  pub closed : Promise (said c) 255 table
   pub breach : (a : List ℕ) → foundBy (said c) table (asked k) ≡ found a → Breach (said c) (rangeOf (said c)) (asked k) a
 
 -- the answer for what was found, and the columns afterwards
@@ -121,4 +184,4 @@ pub record Sought (c : ContextColumns) (table : List ℕ) (k : ClauseColumns) (f
   pub finds : foundBy (said c) table (asked k) ≡ what
   pub told : toldBy (r .outcome) ≡ toldOf (replyOf what)
   pub places : r .places ≡ placesOf (replyOf what)
-  pub leaves : most ≤ space firsts seconds thirds → LeavesFor firsts seconds thirds r firsts′ seconds′ thirds′ (said c) (asked k) what
+  pub leaves : LeavesFor firsts seconds thirds r firsts′ seconds′ thirds′ (said c) (asked k) what

@@ -1,7 +1,7 @@
 // The writer of grounds: the finder's reply, and for a breach the steps and conclusions that show it.
-use concluding::conclude;
-use emitting::emit;
-use emitting::ends::conclusions;
+use concluding::Shown;
+use concluding::say;
+use emitting::batch;
 use finder::Answer;
 use finder::Outcome;
 use finder::hunt;
@@ -10,28 +10,30 @@ use ledger::ClauseColumns;
 use ledger::ContextColumns;
 use ledger::Refusal;
 use numbering::numbers::wide;
+use numbering::pairs::Pairs;
 use numbering::pairs::stated;
 use numbering::table::Table;
 use numbering::table::fill;
 use search::Kind;
 use settling::settle;
-use sweeping::mark;
-use sweeping::rank;
 use verifier::Conclusions;
 ghost use mathlib.Core.Path.{_≡_};
-ghost use Prim.Native.Nat.{_≤_, min};
+ghost use Prim.Native.Nat.{_≤_, _<_, min};
 ghost use lib.Dec.{ltb};
 ghost use lib.ListN.{replicate};
 ghost use Rattle.finder.specs.Claims.{said, asked};
-ghost use Rattle.grounding.specs.Draft.{countIn};
+ghost use Rattle.meaning.specs.Columns.{literalOf};
+ghost use Rattle.meaning.specs.Grounds.{literalAt};
 ghost use Rattle.grounding.specs.Classes.{Left};
 ghost use Rattle.grounding.specs.Rounds.{blank};
-ghost use Rattle.grounding.specs.Concluding.{Leaves};
+ghost use Rattle.grounding.specs.Concluding.{ownerOf};
+ghost use Rattle.batches.specs.Sending.{newOf};
+ghost use Rattle.concluding.specs.Saying.{Says};
 ghost use Rattle.writer.specs.Claims.{most, space, noConclusions, Writes};
-ghost use Rattle.writer.specs.Drawing.{bareWith, refusedWith, Broken, Tabled, Fits, settledOf, endingOf, Swept, PutDown, Drawn, hitBy, Seekable, Sought};
+ghost use Rattle.writer.specs.Drawing.{bareWith, refusedWith, Broken, Tabled, Fits, Apart, settledOf, saidFor, saidOf, Shares, Sayable, Turned, Drawable, Drew, endsWith, Draws, hitBy, Seekable, Sought};
 
 // There has to be room for so many steps.
-const MOST: usize = 16384;
+const MOST: usize = 278528;
 
 // The finder's reply, or refusal 10; how many steps were written, and a conclusion for each literal.
 pub struct Grounds {
@@ -40,12 +42,6 @@ pub struct Grounds {
     pub steps: usize,
     pub literals: usize,
     pub conclusions: Conclusions,
-}
-
-// How many steps were set down, and the conclusions.
-struct Down {
-    steps: usize,
-    conclusions: Conclusions,
 }
 
 // A breach of so many variables, or none.
@@ -149,96 +145,231 @@ fn close_all(
     );
 }
 
-// A conclusion for each literal, by closed classes and the stated differences.
-fn end_all(
-    cells: &mut [u16; 114689],
-    classes: &[u16; 638],
-    ends: &mut [u16; 64],
-    c: ContextColumns,
-    k: ClauseColumns,
-    t: Table,
-)
+// The stated differences.
+fn apart(c: ContextColumns, k: ClauseColumns, t: Table) -> Pairs
     requires { ⌜ Fits c k t ⌝ }
-    requires { ⌜ Left (now cells) (now classes) (settledOf (said c) (asked k) t) ⌝ }
-    requires { ⌜ now ends ≡ replicate 64 0 ⌝ }
-    ensures { λ _. ⌜ Leaves (now (cells .exit)) (now (ends .exit)) (endingOf (said c) (asked k) t) ⌝ }
+    ensures { λ d. ⌜ Apart c t d ⌝ }
 {
     let statements = c.statements;
-    let p = stated(&c.kinds, &c.lefts, &c.rights, statements, &t.numbers, false);
-    let rows = c.rows;
-    let literals = k.literals;
-    conclude(
-        cells,
-        classes,
-        ends,
-        &t.numbers,
-        rows,
-        &p.lefts,
-        &p.rights,
-        p.count,
-        &k.signs,
-        &k.lefts,
-        &k.rights,
-        literals,
-    );
+    stated(&c.kinds, &c.lefts, &c.rights, statements, &t.numbers, false)
 }
 
-// The new numbers of the steps that stay by n conclusions, and how many stay.
-fn sweep<'a>(
-    cells: &'a [u16; 114689],
-    ends: &'a [u16; 64],
-    marks: &mut [u16; 16385],
-    n: usize,
-) -> usize
-    requires { ⌜ countIn (now cells) ≤ 16384 ⌝ }
-    requires { ⌜ n ≤ 16 ⌝ }
-    requires { ⌜ now marks ≡ replicate 16385 0 ⌝ }
-    ensures { λ r. ⌜ Swept (now (cells .entry)) (now (ends .entry)) n (now (marks .exit)) r ⌝ }
-{
-    mark(cells, ends, marks, n);
-    let count = wide(cells[0]);
-    wide(rank(marks, count))
-}
-
-// The steps before the sweep, and a conclusion for each literal.
-fn reason(
+// What shows a literal by itself, by closed classes and the stated differences.
+fn say_for(
     cells: &mut [u16; 114689],
-    ends: &mut [u16; 64],
+    classes: &[u16; 638],
+    from: u16,
     c: ContextColumns,
     k: ClauseColumns,
     t: Table,
-)
+    d: Pairs,
+    kind: u8,
+    p: u16,
+    q: u16,
+) -> Shown
     requires { ⌜ Fits c k t ⌝ }
-    requires { ⌜ now cells ≡ replicate 114689 0 ⌝ }
-    requires { ⌜ now ends ≡ replicate 64 0 ⌝ }
-    ensures { λ _. ⌜ Leaves (now (cells .exit)) (now (ends .exit)) (endingOf (said c) (asked k) t) ⌝ }
+    requires { ⌜ Apart c t d ⌝ }
+    requires { ⌜ Shares (said c) (asked k) t (now classes) from ⌝ }
+    ensures { λ r. ⌜ Says (now (cells .exit)) (r .first) (r .difference) (saidFor (said c) (asked k) t (literalOf kind p q) (now (cells .entry))) ⌝ }
 {
-    let mut classes: [u16; 638] = [0; 638];
-    close_all(cells, &mut classes, c, k, t);
-    end_all(cells, &classes, ends, c, k, t);
+    let rows = c.rows;
+    let n = c.rows + k.patterns;
+    say(
+        cells,
+        classes,
+        from,
+        &t.numbers,
+        &t.symbols,
+        &t.counts,
+        &t.args,
+        n,
+        rows,
+        &d.lefts,
+        &d.rights,
+        d.count,
+        kind,
+        p,
+        q,
+    )
 }
 
-// The steps that stay, in the columns, and the conclusions.
-fn put_down<'a>(
-    cells: &'a [u16; 114689],
-    ends: &'a [u16; 64],
-    rows: usize,
-    n: usize,
+// For literal j, counted from 0.
+fn say_one(
+    cells: &mut [u16; 114689],
+    classes: &[u16; 638],
+    from: u16,
+    c: ContextColumns,
+    k: ClauseColumns,
+    t: Table,
+    j: usize,
+) -> Shown
+    requires { ⌜ Fits c k t ⌝ }
+    requires { ⌜ Shares (said c) (asked k) t (now classes) from ⌝ }
+    requires { ⌜ j < k .literals ⌝ }
+    ensures { λ r. ⌜ Says (now (cells .exit)) (r .first) (r .difference) (saidOf (said c) (asked k) t j (now (cells .entry))) ⌝ }
+{
+    let kind = k.signs[j];
+    let p = k.lefts[j];
+    let q = k.rights[j];
+    let d = apart(c, k, t);
+    say_for(cells, classes, from, c, k, t, d, kind, p, q)
+}
+
+// Whose steps literal j's own are, counted from 0: an unequal literal's number, and 0 for an equal one.
+fn owner_of(k: ClauseColumns, j: usize) -> u8
+    requires { ⌜ j < k .literals ⌝ }
+    requires { ⌜ k .literals ≤ 16 ⌝ }
+    ensures { λ r. ⌜ (r ≡ ownerOf j (literalAt (asked k .literals) j)) × (r ≤ 16) ⌝ }
+{
+    if k.signs[j] == 6 { 0 } else { (j + 1) as u8 }
+}
+
+// A step's new number; step 0 is none.
+fn new_of(news: &[u32; 16385], r: u16) -> u32
+    ensures { λ q. ⌜ q ≡ newOf (now (news .entry)) r ⌝ }
+{
+    let i = wide(r);
+    if i == 0 {
+        return 0;
+    }
+    let places: &[u32] = news;
+    if i < places.len() { places[i] } else { 0 }
+}
+
+// The turn of literal j, counted from 0: what its conclusion rests on, behind the steps that were written before, and its conclusion. How many are written.
+fn draw_one(
+    cells: &mut [u16; 114689],
+    classes: &[u16; 638],
+    from: u16,
+    news: &mut [u32; 16385],
+    ends: &mut [u32; 16],
+    differences: &mut [u16; 16],
     firsts: &mut [u64],
     seconds: &mut [u64],
     thirds: &mut [u64],
-) -> Down
-    requires { ⌜ countIn (now cells) ≤ 16384 ⌝ }
-    requires { ⌜ n ≤ 16 ⌝ }
-    ensures { λ r. ⌜ PutDown (now (cells .entry)) (now (ends .entry)) rows n (now (firsts .entry)) (now (seconds .entry)) (now (thirds .entry)) r (now (firsts .exit)) (now (seconds .exit)) (now (thirds .exit)) ⌝ }
+    c: ContextColumns,
+    k: ClauseColumns,
+    t: Table,
+    j: usize,
+    next: usize,
+) -> usize
+    requires { ⌜ Sayable c k t j (now cells) next ⌝ }
+    requires { ⌜ Shares (said c) (asked k) t (now classes) from ⌝ }
+    ensures { λ r. ⌜ Turned (said c) (asked k) t j (record { cells = now (cells .entry); out = record { news = now (news .entry); next = next; firsts = now (firsts .entry); seconds = now (seconds .entry); thirds = now (thirds .entry) }; ends = now (ends .entry); differences = now (differences .entry) }) (now (cells .exit)) (now (news .exit)) r (now (firsts .exit)) (now (seconds .exit)) (now (thirds .exit)) (now (ends .exit)) (now (differences .exit)) ⌝ }
 {
-    let mut marks: [u16; 16385] = [0; 16385];
-    let steps = sweep(cells, ends, &mut marks, n);
-    emit(firsts, seconds, thirds, cells, &marks, rows);
-    let d = conclusions(ends, &marks, n);
-    Down {
-        steps,
-        conclusions: d,
+    let s = say_one(cells, classes, from, c, k, t, j);
+    let first = s.first;
+    let owner = owner_of(k, j);
+    let rows = c.rows;
+    let shared = wide(from);
+    let last = batch(
+        firsts,
+        seconds,
+        thirds,
+        news,
+        cells,
+        rows,
+        shared,
+        owner,
+        first,
+        next,
+    );
+    ends[j] = new_of(news, first);
+    differences[j] = s.difference;
+    last
+}
+
+// One literal after the other. How many steps are written.
+fn draw_each(
+    cells: &mut [u16; 114689],
+    classes: &[u16; 638],
+    news: &mut [u32; 16385],
+    ends: &mut [u32; 16],
+    differences: &mut [u16; 16],
+    firsts: &mut [u64],
+    seconds: &mut [u64],
+    thirds: &mut [u64],
+    c: ContextColumns,
+    k: ClauseColumns,
+    t: Table,
+) -> usize
+    requires { ⌜ Drawable c k t (now firsts) (now seconds) (now thirds) ⌝ }
+    requires { ⌜ Left (now cells) (now classes) (settledOf (said c) (asked k) t) ⌝ }
+    requires { ⌜ now news ≡ replicate 16385 0 ⌝ }
+    requires { ⌜ now ends ≡ replicate 16 0 ⌝ }
+    requires { ⌜ now differences ≡ replicate 16 0 ⌝ }
+    ensures { λ r. ⌜ Drew (said c) (asked k) t (now (firsts .entry)) (now (seconds .entry)) (now (thirds .entry)) r (now (firsts .exit)) (now (seconds .exit)) (now (thirds .exit)) (now (ends .exit)) (now (differences .exit)) ⌝ }
+{
+    let from = cells[0];
+    let literals = k.literals;
+    let mut next: usize = 0;
+    let mut j: usize = 0;
+    while j < literals {
+        next = draw_one(
+            cells,
+            classes,
+            from,
+            news,
+            ends,
+            differences,
+            firsts,
+            seconds,
+            thirds,
+            c,
+            k,
+            t,
+            j,
+            next,
+        );
+        j += 1;
+    }
+    next
+}
+
+// All steps, and for each literal a step and a stated difference. How many steps are written.
+fn draw_all(
+    ends: &mut [u32; 16],
+    differences: &mut [u16; 16],
+    firsts: &mut [u64],
+    seconds: &mut [u64],
+    thirds: &mut [u64],
+    c: ContextColumns,
+    k: ClauseColumns,
+    t: Table,
+) -> usize
+    requires { ⌜ Drawable c k t (now firsts) (now seconds) (now thirds) ⌝ }
+    requires { ⌜ now ends ≡ replicate 16 0 ⌝ }
+    requires { ⌜ now differences ≡ replicate 16 0 ⌝ }
+    ensures { λ r. ⌜ Drew (said c) (asked k) t (now (firsts .entry)) (now (seconds .entry)) (now (thirds .entry)) r (now (firsts .exit)) (now (seconds .exit)) (now (thirds .exit)) (now (ends .exit)) (now (differences .exit)) ⌝ }
+{
+    let mut cells: [u16; 114689] = [0; 114689];
+    let mut classes: [u16; 638] = [0; 638];
+    close_all(&mut cells, &mut classes, c, k, t);
+    let mut news: [u32; 16385] = [0; 16385];
+    draw_each(
+        &mut cells,
+        &classes,
+        &mut news,
+        ends,
+        differences,
+        firsts,
+        seconds,
+        thirds,
+        c,
+        k,
+        t,
+    )
+}
+
+// A conclusion for each literal: a step and a stated difference.
+fn ends_with(ends: [u32; 16], differences: [u16; 16]) -> Conclusions
+    ensures { λ r. ⌜ r ≡ endsWith ends differences ⌝ }
+{
+    Conclusions {
+        firsts: ends,
+        seconds: [0; 16],
+        differences,
+        orientations: [0; 16],
     }
 }
 
@@ -253,21 +384,29 @@ fn draw(
     thirds: &mut [u64],
 ) -> Grounds
     requires { ⌜ Broken c k places ⌝ }
-    ensures { λ r. ⌜ Drawn c k n places (now (firsts .entry)) (now (seconds .entry)) (now (thirds .entry)) r (now (firsts .exit)) (now (seconds .exit)) (now (thirds .exit)) ⌝ }
+    requires { ⌜ most ≤ space (now firsts) (now seconds) (now thirds) ⌝ }
+    ensures { λ r. ⌜ Draws c k n places (now (firsts .entry)) (now (seconds .entry)) (now (thirds .entry)) r (now (firsts .exit)) (now (seconds .exit)) (now (thirds .exit)) ⌝ }
 {
     let t = lay(c, k, places);
-    let mut cells: [u16; 114689] = [0; 114689];
-    let mut ends: [u16; 64] = [0; 64];
-    reason(&mut cells, &mut ends, c, k, t);
-    let rows = c.rows;
+    let mut ends: [u32; 16] = [0; 16];
+    let mut differences: [u16; 16] = [0; 16];
+    let steps = draw_all(
+        &mut ends,
+        &mut differences,
+        firsts,
+        seconds,
+        thirds,
+        c,
+        k,
+        t,
+    );
     let literals = k.literals;
-    let down = put_down(&cells, &ends, rows, literals, firsts, seconds, thirds);
-    let conclusions = down.conclusions;
+    let conclusions = ends_with(ends, differences);
     let outcome = Outcome::Breach(n);
     Grounds {
         outcome,
         places,
-        steps: down.steps,
+        steps,
         literals,
         conclusions,
     }
@@ -294,6 +433,7 @@ fn seek(
     thirds: &mut [u64],
 ) -> Grounds
     requires { ⌜ Seekable c table k ⌝ }
+    requires { ⌜ most ≤ space (now firsts) (now seconds) (now thirds) ⌝ }
     ensures { λ r. ⌜ Sought c table k (now (firsts .entry)) (now (seconds .entry)) (now (thirds .entry)) r (now (firsts .exit)) (now (seconds .exit)) (now (thirds .exit)) ⌝ }
 {
     let r = hunt(c, table, k);

@@ -1,19 +1,16 @@
 -- `breaches::list` ends, since each piece leaves fewer lines to be written.
 -- Assumes nothing.
+use Rattle.listing.specs.Filling.{Lent}
 use Rattle.listing.proofs.Ending.{leftOf}
 use Rattle.breaches.proofs.Shrinking.{mine}
 use Rattle.breaches.proofs.list.Statement.{statement}
 use Rattle.breaches.proofs.list.Tie as tie
-use Rattle.breaches.proofs.list.Reads as reads
-use Rattle.breaches.proofs.list.Lts as lts
-use Rattle.breaches.proofs.piece.Reads as piece-reads
-use Rattle.listing.proofs.is_done.Reads as is-done-reads
 
 abbrev Inv-loop : tie.InvT-loop
-Inv-loop c table k state₀ state = Unit {0}
+Inv-loop c table k busy known₀ state₀ known state = Lent c table busy known
 
 abbrev μ-loop : tie.MeasureT-loop
-μ-loop c table k state₀ state = leftOf c table k state
+μ-loop c table k busy known₀ state₀ known state = leftOf c table k state
 
 loop-holds : tie.Need-loop-holds Inv-loop μ-loop
 loop-holds c = search mine

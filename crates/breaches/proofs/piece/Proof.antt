@@ -1,12 +1,8 @@
--- `breaches::piece` leaves fewer lines to be written, since its space has room for a line.
+-- `breaches::piece` leaves fewer lines to be written, since its space has room for a line, and what is known stays so.
 -- Assumes nothing.
 use Rattle.breaches.proofs.Shrinking.{mine}
 use Rattle.breaches.proofs.piece.Statement.{statement}
 use Rattle.breaches.proofs.piece.Tie as tie
-use Rattle.breaches.proofs.piece.Reads as reads
-use Rattle.breaches.proofs.piece.Lts as lts
-use Rattle.breaches.proofs.put.Reads as put-reads
-use Rattle.listing.proofs.fill.Reads as fill-reads
 
 slice-aggregate-fill : tie.Need-slice-aggregate-fill
 slice-aggregate-fill c = search mine
@@ -21,7 +17,7 @@ put-requires : tie.Need-put-requires
 put-requires c κs = search mine
 
 returns : tie.Need-returns
-returns c = search mine
+returns c = (search mine, search mine)
 
 pub piece-spec : {M : Type 1} → statement M
 piece-spec =

@@ -1,33 +1,33 @@
--- `concluding::place` meets its contract. The invariant: the first i differences have other labels. The measure is what is left of the differences.
+-- `concluding::place` meets its contract. The invariant: the first i differences have two labels. The measure is what is left of the differences.
 -- Assumes nothing.
 use Prim.Native.Nat.{_-_}
-use Rattle.concluding.proofs.Endings.{Placing, placing}
+use Rattle.concluding.proofs.Sayings.{Placing, placing}
 use Rattle.concluding.proofs.place.Statement.{statement}
 use Rattle.concluding.proofs.place.Tie as tie
 
 abbrev Inv-loop : tie.InvT-loop
-Inv-loop table lefts rights count x y i₀ i = Placing table lefts rights count x y i
+Inv-loop table lefts rights count i₀ i = Placing table lefts rights count i
 
 abbrev μ-loop : tie.MeasureT-loop
-μ-loop table lefts rights count x y i₀ i = count - i
+μ-loop table lefts rights count i₀ i = count - i
 
 loop-holds : tie.Need-loop-holds Inv-loop μ-loop
 loop-holds c = search placing
 
-mul-either : tie.Need-mul-either Inv-loop μ-loop
-mul-either c = search placing
+mul-same-label : tie.Need-mul-same-label Inv-loop μ-loop
+mul-same-label c = search placing
 
-element-copy-out-either : tie.Need-element-copy-out-either Inv-loop μ-loop
-element-copy-out-either c = search placing
+element-copy-out-same-label : tie.Need-element-copy-out-same-label Inv-loop μ-loop
+element-copy-out-same-label c = search placing
 
-mul-either-2 : tie.Need-mul-either-2 Inv-loop μ-loop
-mul-either-2 c = search placing
+mul-same-label-2 : tie.Need-mul-same-label-2 Inv-loop μ-loop
+mul-same-label-2 c = search placing
 
-element-copy-out-either-2 : tie.Need-element-copy-out-either-2 Inv-loop μ-loop
-element-copy-out-either-2 c = search placing
+element-copy-out-same-label-2 : tie.Need-element-copy-out-same-label-2 Inv-loop μ-loop
+element-copy-out-same-label-2 c = search placing
 
-either-requires : tie.Need-either-requires Inv-loop μ-loop
-either-requires c κs = search placing
+same-label-requires : tie.Need-same-label-requires Inv-loop μ-loop
+same-label-requires c κs = search placing
 
 returns : tie.Need-returns Inv-loop μ-loop
 returns c = search placing
@@ -51,11 +51,11 @@ place-spec =
     Inv-loop
     μ-loop
     loop-holds
-    mul-either
-    element-copy-out-either
-    mul-either-2
-    element-copy-out-either-2
-    either-requires
+    mul-same-label
+    element-copy-out-same-label
+    mul-same-label-2
+    element-copy-out-same-label-2
+    same-label-requires
     returns
     add-i
     loop-less

@@ -1,6 +1,6 @@
 -- `concluding::side_at` meets its contract. A side that is there, or 0.
 -- Assumes nothing.
-use Rattle.concluding.proofs.Endings.{placing}
+use Rattle.concluding.proofs.Sayings.{placing}
 use Rattle.concluding.proofs.side_at.Statement.{statement}
 use Rattle.concluding.proofs.side_at.Tie as tie
 

@@ -1,57 +1,25 @@
--- `search::next_in` meets its contract.
+-- `search::next_in` meets its contract. The closing and the marks are what is to be lent, and a memo of zeros knows nothing.
 -- Assumes nothing.
-use borrow.Author.Tests.{not-true, not-false}
-use Rattle.columns.proofs.Deciding.{decides-not}
-use Rattle.search.proofs.Finding.{plans-unfit, ready, later-asks, nexts, nexts-none, nexts-unfit}
 use borrow.Author.Needs.{needs}
+use Rattle.differing.proofs.Knowing.{knows-start}
+use Rattle.search.proofs.Finding.{closes-lent}
 use Rattle.search.proofs.next_in.Statement.{statement}
 use Rattle.search.proofs.next_in.Tie as tie
 
-fit-context-requires : tie.Need-fit-context-requires
-fit-context-requires c κs = search needs
+close-requires : tie.Need-close-requires
+close-requires c κs = search needs
 
-unfit-requires : tie.Need-unfit-requires
-unfit-requires c κs = search needs
+busy-classes-requires : tie.Need-busy-classes-requires
+busy-classes-requires c κs = search needs
+
+unknown-requires : tie.Need-unknown-requires
+unknown-requires c κs = search needs
+
+next-with-requires : tie.Need-next-with-requires
+next-with-requires c κs = (closes-lent (c .before .before .before .before .before .before .before .before .close .result .answer) (c .before .before .before .before .before .before .before .before .close .ensures) (c .before .before .before .before .before .busy-classes .ensures), knows-start _ _ (c .before .before .before .before .unknown .ensures))
 
 returns : tie.Need-returns
-returns c = nexts-unfit (λ f g. decides-not (c .before .before .fit-context .ensures .0) (not-true _ (c .before .if1 .taken)) f) _ (c .unfit .ensures) _
-
-plan-clause-requires : tie.Need-plan-clause-requires
-plan-clause-requires c κs = search needs
-
-unfit-requires-2 : tie.Need-unfit-requires-2
-unfit-requires-2 c κs = search needs
-
-returns-2 : tie.Need-returns-2
-returns-2 c = nexts-unfit (λ f g. plans-unfit (c .before .before .plan-clause .ensures) (not-true _ (c .before .if2 .taken)) g) _ (c .unfit2 .ensures) _
-
-clear-requires : tie.Need-clear-requires
-clear-requires c κs = search needs
-
-returns-3 : tie.Need-returns-3
-returns-3 c = nexts-none (c .before .before .before .before .before .fit-context .ensures .0 .holds (not-false _ (c .before .before .before .before .if1 .left))) (c .before .before .before .before .before .fit-context .ensures .1 (not-false _ (c .before .before .before .before .if1 .left))) (c .before .before .before .plan-clause .ensures) (not-false _ (c .before .before .if2 .left)) (c .before .before .before .before .before .before .args .table .now) _ _ (c .before .if3 .taken) (c .clear .ensures)
-
-later-requires : tie.Need-later-requires
-later-requires c κs = later-asks (c .before .before .before .before .before .before .before .before .fit-context .ensures .0 .holds (not-false _ (c .before .before .before .before .before .before .before .if1 .left))) (c .before .before .before .before .before .before .before .before .fit-context .ensures .1 (not-false _ (c .before .before .before .before .before .before .before .if1 .left))) (c .before .before .before .before .before .before .plan-clause .ensures) (not-false _ (c .before .before .before .before .before .if2 .left)) (c .before .before .before .before .if3 .left)
-
-start-requires : tie.Need-start-requires
-start-requires c κs = ready (c .before .before .before .before .before .before .before .before .before .fit-context .ensures .0 .holds (not-false _ (c .before .before .before .before .before .before .before .before .if1 .left))) (c .before .before .before .before .before .before .before .before .before .fit-context .ensures .1 (not-false _ (c .before .before .before .before .before .before .before .before .if1 .left))) (c .before .before .before .before .before .before .before .plan-clause .ensures) (not-false _ (c .before .before .before .before .before .before .if2 .left))
-
-returns-4 : tie.Need-returns-4
-returns-4 c = nexts (c .before .before .before .before .before .before .before .before .before .before .fit-context .ensures .0 .holds (not-false _ (c .before .before .before .before .before .before .before .before .before .if1 .left))) (c .before .before .before .before .before .before .before .before .before .before .fit-context .ensures .1 (not-false _ (c .before .before .before .before .before .before .before .before .before .if1 .left))) (c .before .before .before .before .before .before .before .before .plan-clause .ensures) (not-false _ (c .before .before .before .before .before .before .before .if2 .left)) (c .before .before .before .before .before .before .before .before .before .before .before .args .table .now) _ _ _ (c .before .later .ensures .1) (c .before .before .before .before .before .before .if3 .left) (c .before .later .ensures .0) (c .start .ensures)
+returns c = search needs
 
 pub next-in-spec : {M : Type 1} → statement M
-next-in-spec =
-    tie.close
-    (tie.spec
-    fit-context-requires
-    unfit-requires
-    returns
-    plan-clause-requires
-    unfit-requires-2
-    returns-2
-    clear-requires
-    returns-3
-    later-requires
-    start-requires
-    returns-4)
+next-in-spec = tie.close (tie.spec close-requires busy-classes-requires unknown-requires next-with-requires returns)

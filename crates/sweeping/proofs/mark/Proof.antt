@@ -1,4 +1,4 @@
--- `sweeping::mark` meets its contract. The conclusions first, and then the steps from the last to the first.
+-- `sweeping::mark` meets its contract. The step first, and then the steps from the last to the first.
 -- Assumes nothing.
 use Rattle.sweeping.proofs.Marking.{mine}
 use Rattle.sweeping.proofs.mark.Statement.{statement}
@@ -10,8 +10,8 @@ element-copy-out-wide c = search mine
 wide-requires : tie.Need-wide-requires
 wide-requires c κs = search mine
 
-mark-ends-requires : tie.Need-mark-ends-requires
-mark-ends-requires c κs = search mine
+note-requires : tie.Need-note-requires
+note-requires c κs = search mine
 
 mark-steps-requires : tie.Need-mark-steps-requires
 mark-steps-requires c κs = search mine
@@ -22,4 +22,4 @@ returns c = search mine
 pub mark-spec : {M : Type 1} → statement M
 mark-spec =
     tie.close
-    (tie.spec element-copy-out-wide wide-requires mark-ends-requires mark-steps-requires returns)
+    (tie.spec element-copy-out-wide wide-requires note-requires mark-steps-requires returns)

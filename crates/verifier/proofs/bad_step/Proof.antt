@@ -8,7 +8,7 @@ stated-requires : tie.Need-stated-requires
 stated-requires c κs = search mine
 
 first-bad-requires : tie.Need-first-bad-requires
-first-bad-requires c κs = search mine
+first-bad-requires c κs = (search mine, (search mine, (search mine, search mine)))
 
 returns : tie.Need-returns
 returns c = search mine

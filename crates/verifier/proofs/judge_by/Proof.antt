@@ -1,12 +1,12 @@
 -- `verifier::judge_by` meets its contract. Each way out is one case of the verdict, by the filled table.
 -- Assumes nothing.
 use borrow.Author.Needs.{needs}
-use Rattle.verifier.proofs.Judging.{mine}
+use Rattle.verifier.proofs.Judging.{mine, inside-steps}
 use Rattle.verifier.proofs.judge_by.Statement.{statement}
 use Rattle.verifier.proofs.judge_by.Tie as tie
 
 bad-step-requires : tie.Need-bad-step-requires
-bad-step-requires c κs = (search mine, (search mine, search mine))
+bad-step-requires c κs = (search mine, (search mine, (search mine, search mine)))
 
 shortest-requires : tie.Need-shortest-requires
 shortest-requires c κs = search needs
@@ -18,7 +18,7 @@ returns : tie.Need-returns
 returns c = search mine
 
 open-literal-requires : tie.Need-open-literal-requires
-open-literal-requires c κs = (search mine, (search mine, (search mine, search mine)))
+open-literal-requires c κs = (search mine, (search mine, (search mine, inside-steps _ _ _ _ (c .before .before .before .shortest .ensures))))
 
 add-t32 : tie.Need-add-t32
 add-t32 c = search needs

@@ -1,17 +1,17 @@
--- `writer::draw` meets its contract. The steps before the sweep fit their column, and what is left of them shows the breach.
+-- `writer::draw` meets its contract. What is written for all literals shows the breach.
 -- Assumes nothing.
-use Rattle.writer.proofs.Drawing.{mine}
+use Rattle.writer.proofs.Turning.{mine}
 use Rattle.writer.proofs.draw.Statement.{statement}
 use Rattle.writer.proofs.draw.Tie as tie
 
 lay-requires : tie.Need-lay-requires
 lay-requires c κs = search mine
 
-reason-requires : tie.Need-reason-requires
-reason-requires c κs = (search mine, (search mine, search mine))
+draw-all-requires : tie.Need-draw-all-requires
+draw-all-requires c κs = (search mine, (search mine, search mine))
 
-put-down-requires : tie.Need-put-down-requires
-put-down-requires c κs = (search mine, search mine)
+ends-with-requires : tie.Need-ends-with-requires
+ends-with-requires c κs = search mine
 
 same-length : tie.Need-same-length
 same-length c = search mine
@@ -30,8 +30,8 @@ draw-spec =
     tie.close
     (tie.spec
     lay-requires
-    reason-requires
-    put-down-requires
+    draw-all-requires
+    ends-with-requires
     same-length
     same-length-2
     same-length-3

@@ -5,7 +5,7 @@ use Rattle.writer.proofs.seek.Statement.{statement}
 use Rattle.writer.proofs.seek.Tie as tie
 
 hunt-requires : tie.Need-hunt-requires
-hunt-requires c κs = search mine
+hunt-requires c κs = (search mine, search mine)
 
 hit-of-requires : tie.Need-hit-of-requires
 hit-of-requires c κs = search mine
@@ -23,7 +23,7 @@ returns : tie.Need-returns
 returns c = search mine
 
 draw-requires : tie.Need-draw-requires
-draw-requires c κs = search mine
+draw-requires c κs = (search mine, search mine)
 
 same-length : tie.Need-same-length
 same-length c = search mine

@@ -38,7 +38,7 @@ returns-2 : tie.Need-returns-2
 returns-2 c = search mine
 
 seek-requires : tie.Need-seek-requires
-seek-requires c κs = search mine
+seek-requires c κs = (search mine, search mine)
 
 same-length-4 : tie.Need-same-length-4
 same-length-4 c = search mine

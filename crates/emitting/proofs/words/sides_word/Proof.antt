@@ -7,11 +7,20 @@ use Rattle.emitting.proofs.words.sides_word.Tie as tie
 word-requires : tie.Need-word-requires
 word-requires c κs = search mine
 
-long-requires : tie.Need-long-requires
-long-requires c κs = search mine
+long8-requires : tie.Need-long8-requires
+long8-requires c κs = search mine
 
 mul-high : tie.Need-mul-high
 mul-high c = search mine
+
+long-requires : tie.Need-long-requires
+long-requires c κs = search mine
+
+mul-high-2 : tie.Need-mul-high-2
+mul-high-2 c = search mine
+
+add-high : tie.Need-add-high
+add-high c = search mine
 
 mark-of-requires : tie.Need-mark-of-requires
 mark-of-requires c κs = search mine
@@ -54,8 +63,11 @@ sides-word-spec =
     tie.close
     (tie.spec
     word-requires
-    long-requires
+    long8-requires
     mul-high
+    long-requires
+    mul-high-2
+    add-high
     mark-of-requires
     mul-left
     row-of-requires

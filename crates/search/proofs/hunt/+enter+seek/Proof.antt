@@ -3,10 +3,10 @@
 use Prim.Native.Nat.{_+_, _-_, _*_, _≤_, ℕ, _<_}
 use mathlib.Core.Path.{ap, sym, refl, _∙_}
 use borrow.Author.Tests.{not-true, not-false}
-use Rattle.meaning.specs.Context.{differencesOf}
 use Rattle.meaning.specs.Equality.{repAt}
-use Rattle.meaning.specs.ByTable.{apartBy}
-use Rattle.meaning.specs.Columns.{rowsFrom, statementsFrom, patternsFrom, literalsFrom}
+use Rattle.meaning.specs.Columns.{rowsFrom, patternsFrom, literalsFrom, contextFrom}
+use Rattle.meaning.proofs.FollowingNumbers.{widerBy}
+use Rattle.differing.specs.Knowing.{Knows}
 use Rattle.search.specs.Hunting.{stageOf, deadOf, rowsOf, attemptOf, huntOf, answerOf}
 use Rattle.search.proofs.Hunting.{Trying, trying-start, trying-found, trying-next, trying-done, enter-dead, enter-live, planned-listed, planned-rises, chosen-next, hunt-leaf, attempt-enter}
 use borrow.Author.Needs.{needs}
@@ -31,23 +31,23 @@ use Rattle.values.proofs.value.read.Reads as read-reads
 use Rattle.search.proofs.hunt.+enter+seek.{statement}
 use Rattle.search.proofs.hunt.+enter+seek.Tie.{close}
 
-abbrev μ-enter : Measures 1 enter-kinds.ps ℕ
-μ-enter κs a = (a .1 .1 .1 .1 .1 .1 .1 .1 .1 .1 .1 .1 .1 .1 .1 .1 .1 .1 .1 .1 .1 .1 .1 .0 - a .1 .1 .1 .1 .1 .1 .1 .1 .1 .1 .1 .1 .1 .1 .1 .1 .1 .1 .1 .1 .1 .1 .1 .1 .1 .1 .0) * 2 + 1
+abbrev μ-enter : Measures 2 enter-kinds.ps ℕ
+μ-enter κs a = (a .1 .1 .1 .1 .1 .1 .1 .1 .1 .1 .1 .1 .1 .1 .1 .1 .1 .1 .1 .1 .1 .1 .1 .1 .1 .1 .0 - a .1 .1 .1 .1 .1 .1 .1 .1 .1 .1 .1 .1 .1 .1 .1 .1 .1 .1 .1 .1 .1 .1 .1 .1 .1 .1 .1 .1 .1 .0) * 2 + 1
 
-abbrev μ-seek : Measures 1 seek-kinds.ps ℕ
-μ-seek κs a = (a .1 .1 .1 .1 .1 .1 .1 .1 .1 .1 .1 .1 .1 .1 .1 .1 .1 .1 .1 .1 .1 .1 .1 .0 - a .1 .1 .1 .1 .1 .1 .1 .1 .1 .1 .1 .1 .1 .1 .1 .1 .1 .1 .1 .1 .1 .1 .1 .1 .1 .1 .0) * 2
+abbrev μ-seek : Measures 2 seek-kinds.ps ℕ
+μ-seek κs a = (a .1 .1 .1 .1 .1 .1 .1 .1 .1 .1 .1 .1 .1 .1 .1 .1 .1 .1 .1 .1 .1 .1 .1 .1 .1 .1 .0 - a .1 .1 .1 .1 .1 .1 .1 .1 .1 .1 .1 .1 .1 .1 .1 .1 .1 .1 .1 .1 .1 .1 .1 .1 .1 .1 .1 .1 .1 .0) * 2
 
-abbrev enter-at : ℕ → In 1 enter-kinds.ps
-enter-at t = and 1 enter-kinds.ps (is 1 enter-kinds.ps μ-enter t) enter.Pre
+abbrev enter-at : ℕ → In 2 enter-kinds.ps
+enter-at t = and 2 enter-kinds.ps (is 2 enter-kinds.ps μ-enter t) enter.Pre
 
-abbrev enter-below : ℕ → In 1 enter-kinds.ps
-enter-below t = and 1 enter-kinds.ps (falls 1 enter-kinds.ps _<_ μ-enter t) enter.Pre
+abbrev enter-below : ℕ → In 2 enter-kinds.ps
+enter-below t = and 2 enter-kinds.ps (falls 2 enter-kinds.ps _<_ μ-enter t) enter.Pre
 
-abbrev seek-at : ℕ → In 1 seek-kinds.ps
-seek-at t = and 1 seek-kinds.ps (is 1 seek-kinds.ps μ-seek t) seek.Pre
+abbrev seek-at : ℕ → In 2 seek-kinds.ps
+seek-at t = and 2 seek-kinds.ps (is 2 seek-kinds.ps μ-seek t) seek.Pre
 
-abbrev seek-below : ℕ → In 1 seek-kinds.ps
-seek-below t = and 1 seek-kinds.ps (falls 1 seek-kinds.ps _<_ μ-seek t) seek.Pre
+abbrev seek-below : ℕ → In 2 seek-kinds.ps
+seek-below t = and 2 seek-kinds.ps (falls 2 seek-kinds.ps _<_ μ-seek t) seek.Pre
 
 enter-wide8-requires : (t : ℕ) → enter-lts.Need-wide8-requires (
   wide8-reads.Asked,
@@ -75,7 +75,7 @@ enter-element-copy-out-wide8 : (t : ℕ) → enter-lts.Need-element-copy-out-wid
   seek-below t,
   seek.Post,
 ) (enter-at t) enter.Post
-enter-element-copy-out-wide8 t c = omega (arith, c .wide8 .ensures, c .before .pre .1 .1 .0, c .before .pre .1 .0 .few)
+enter-element-copy-out-wide8 t c = omega (arith, c .wide8 .ensures, c .before .pre .1 .1 .0 .0, c .before .pre .1 .0 .few)
 
 enter-wide8-requires-2 : (t : ℕ) → enter-lts.Need-wide8-requires-2 (
   wide8-reads.Asked,
@@ -103,7 +103,7 @@ enter-add-wide8 : (t : ℕ) → enter-lts.Need-add-wide8 (
   seek-below t,
   seek.Post,
 ) (enter-at t) enter.Post
-enter-add-wide8 t c = omega (arith, c .before .before .wide8 .ensures, c .before .before .before .pre .1 .1 .0, c .before .before .before .pre .1 .0 .few)
+enter-add-wide8 t c = omega (arith, c .before .before .wide8 .ensures, c .before .before .before .pre .1 .1 .0 .0, c .before .before .before .pre .1 .0 .few)
 
 enter-element-copy-out-wide8-2 : (t : ℕ) → enter-lts.Need-element-copy-out-wide8-2 (
   wide8-reads.Asked,
@@ -117,7 +117,7 @@ enter-element-copy-out-wide8-2 : (t : ℕ) → enter-lts.Need-element-copy-out-w
   seek-below t,
   seek.Post,
 ) (enter-at t) enter.Post
-enter-element-copy-out-wide8-2 t c = omega (arith, c .before .before .wide8 .ensures, c .before .before .before .pre .1 .1 .0, c .before .before .before .pre .1 .0 .few)
+enter-element-copy-out-wide8-2 t c = omega (arith, c .before .before .wide8 .ensures, c .before .before .before .pre .1 .1 .0 .0, c .before .before .before .pre .1 .0 .few)
 
 enter-wide8-requires-3 : (t : ℕ) → enter-lts.Need-wide8-requires-3 (
   wide8-reads.Asked,
@@ -145,7 +145,7 @@ enter-read-requires : (t : ℕ) → enter-lts.Need-read-requires (
   seek-below t,
   seek.Post,
 ) (enter-at t) enter.Post
-enter-read-requires t c κs = (record { ledger = c .before .before .before .before .before .pre .1 .0 .ledger; rule = c .before .before .before .before .before .pre .1 .0 .rule; listed = planned-listed (c .before .before .before .before .before .pre .1 .0 .planned) _ _ _ (c .before .before .before .before .wide8 .ensures) (omega (arith, c .before .before .before .before .before .pre .1 .1 .0, c .before .before .before .before .before .pre .1 .0 .few)) (c .wide83 .ensures) }, planned-rises (c .before .before .before .before .before .pre .1 .0 .planned) _ _ _ _ (c .before .before .before .before .wide8 .ensures) (omega (arith, c .before .before .before .before .before .pre .1 .1 .0, c .before .before .before .before .before .pre .1 .0 .few)) (c .before .before .wide82 .ensures) (c .wide83 .ensures))
+enter-read-requires t c κs = (record { ledger = c .before .before .before .before .before .pre .1 .0 .ledger; rule = c .before .before .before .before .before .pre .1 .0 .rule; listed = planned-listed (c .before .before .before .before .before .pre .1 .0 .planned) _ _ _ (c .before .before .before .before .wide8 .ensures) (omega (arith, c .before .before .before .before .before .pre .1 .1 .0 .0, c .before .before .before .before .before .pre .1 .0 .few)) (c .wide83 .ensures) }, planned-rises (c .before .before .before .before .before .pre .1 .0 .planned) _ _ _ _ (c .before .before .before .before .wide8 .ensures) (omega (arith, c .before .before .before .before .before .pre .1 .1 .0 .0, c .before .before .before .before .before .pre .1 .0 .few)) (c .before .before .wide82 .ensures) (c .wide83 .ensures))
 
 enter-all-pass-requires : (t : ℕ) → enter-lts.Need-all-pass-requires (
   wide8-reads.Asked,
@@ -159,7 +159,7 @@ enter-all-pass-requires : (t : ℕ) → enter-lts.Need-all-pass-requires (
   seek-below t,
   seek.Post,
 ) (enter-at t) enter.Post
-enter-all-pass-requires t c κs = (c .before .before .before .before .before .before .before .pre .1 .0 .sided, c .before .before .before .before .before .before .before .pre .1 .0 .tested)
+enter-all-pass-requires t c κs = let p = c .before .before .before .before .before .before .before .before .pre .1 in (p .1 .1 .0, (p .1 .1 .1, p .0 .tested))
 
 enter-clear-requires : (t : ℕ) → enter-lts.Need-clear-requires (
   wide8-reads.Asked,
@@ -187,7 +187,10 @@ enter-returns : (t : ℕ) → enter-lts.Need-returns (
   seek-below t,
   seek.Post,
 ) (enter-at t) enter.Post
-enter-returns t c = c .clear .ensures ∙ ap answerOf (enter-dead _ (repAt (c .before .before .before .before .before .before .before .before .before .before .args .table .now)) _ _ _ (apartBy (repAt (c .before .before .before .before .before .before .before .before .before .before .args .table .now)) (differencesOf (statementsFrom (c .before .before .before .before .before .before .before .before .before .before .args .kinds .now) (c .before .before .before .before .before .before .before .before .before .before .args .lefts .now) (c .before .before .before .before .before .before .before .before .before .before .args .rights .now) (c .before .before .before .before .before .before .before .before .before .before .args .statements)))) _ _ _ _ _ _ _ _ _ _ _ _ (c .before .before .before .before .before .before .before .before .before .wide8 .ensures) (c .before .before .before .before .before .before .before .wide82 .ensures) (c .before .before .before .before .before .wide83 .ensures) (c .before .before .before .before .read .ensures) (c .before .before .all-pass .ensures) (not-true _ (c .before .if1 .taken)))
+enter-returns t c =
+    let s = c .before .before .before .before .before .before .before .before .before .before .before in
+    let a = s .args in
+    (c .clear .ensures ∙ ap answerOf (enter-dead (rowsFrom (a .symbols .now) (a .counts .now) (a .args .now) (a .rows)) (repAt (a .table .now)) (patternsFrom (a .shapes .now) (a .heads .now) (a .arities .now) (a .subs .now) (a .patterns)) (a .order .now) (a .ends .now) (widerBy (contextFrom (a .symbols .now) (a .counts .now) (a .args .now) (a .rows) (a .kinds .now) (a .lefts .now) (a .rights .now) (a .statements))) (a .levels .now) (literalsFrom (a .signs .now) (a .firsts .now) (a .seconds .now) (a .literals)) (rowsOf (repAt (a .table .now)) (a .rows) (a .free) (a .from)) _ (a .k) (a .chosen) (a .values .now) _ _ _ _ _ (c .before .before .before .before .before .before .before .before .before .before .wide8 .ensures) (c .before .before .before .before .before .before .before .before .wide82 .ensures) (c .before .before .before .before .before .before .wide83 .ensures) (c .before .before .before .before .before .read .ensures) (c .before .before .all-pass .ensures .0) (not-true _ (c .before .if1 .taken))), c .before .before .all-pass .ensures .1)
 
 enter-seek-requires : (t : ℕ) → enter-lts.Need-seek-requires (
   wide8-reads.Asked,
@@ -201,7 +204,9 @@ enter-seek-requires : (t : ℕ) → enter-lts.Need-seek-requires (
   seek-below t,
   seek.Post,
 ) (enter-at t) enter.Post
-enter-seek-requires t c κs = (omega (arith, c .before .before .before .before .before .before .before .before .before .before .pre .0), (c .before .before .before .before .before .before .before .before .before .before .pre .1 .0, c .before .before .before .before .before .before .before .before .before .before .pre .1 .1))
+enter-seek-requires t c κs =
+    let p = c .before .before .before .before .before .before .before .before .before .before .before .before .pre in
+    (omega (arith, p .0), (p .1 .0, (p .1 .1 .0, (p .1 .1 .1 .0, c .before .before .before .all-pass .ensures .1))))
 
 enter-returns-2 : (t : ℕ) → enter-lts.Need-returns-2 (
   wide8-reads.Asked,
@@ -215,14 +220,19 @@ enter-returns-2 : (t : ℕ) → enter-lts.Need-returns-2 (
   seek-below t,
   seek.Post,
 ) (enter-at t) enter.Post
-enter-returns-2 t c = c .seek .ensures ∙ ap answerOf (enter-live _ (repAt (c .before .before .before .before .before .before .before .before .before .before .before .args .table .now)) _ _ _ (apartBy (repAt (c .before .before .before .before .before .before .before .before .before .before .before .args .table .now)) (differencesOf (statementsFrom (c .before .before .before .before .before .before .before .before .before .before .before .args .kinds .now) (c .before .before .before .before .before .before .before .before .before .before .before .args .lefts .now) (c .before .before .before .before .before .before .before .before .before .before .before .args .rights .now) (c .before .before .before .before .before .before .before .before .before .before .before .args .statements)))) _ _ _ _ _ _ _ _ _ _ _ _ (c .before .before .before .before .before .before .before .before .before .before .wide8 .ensures) (c .before .before .before .before .before .before .before .before .wide82 .ensures) (c .before .before .before .before .before .before .wide83 .ensures) (c .before .before .before .before .before .read .ensures) (c .before .before .before .all-pass .ensures) (not-false _ (c .before .before .if1 .left)))
+enter-returns-2 t c =
+    let s = c .before .before .before .before .before .before .before .before .before .before .before .before .before in
+    let a = s .args in
+    (c .seek .ensures .0 ∙ ap answerOf (enter-live (rowsFrom (a .symbols .now) (a .counts .now) (a .args .now) (a .rows)) (repAt (a .table .now)) (patternsFrom (a .shapes .now) (a .heads .now) (a .arities .now) (a .subs .now) (a .patterns)) (a .order .now) (a .ends .now) (widerBy (contextFrom (a .symbols .now) (a .counts .now) (a .args .now) (a .rows) (a .kinds .now) (a .lefts .now) (a .rights .now) (a .statements))) (a .levels .now) (literalsFrom (a .signs .now) (a .firsts .now) (a .seconds .now) (a .literals)) (rowsOf (repAt (a .table .now)) (a .rows) (a .free) (a .from)) _ (a .k) (a .chosen) (a .values .now) _ _ _ _ _ (c .before .before .before .before .before .before .before .before .before .before .before .before .wide8 .ensures) (c .before .before .before .before .before .before .before .before .before .before .wide82 .ensures) (c .before .before .before .before .before .before .before .before .wide83 .ensures) (c .before .before .before .before .before .before .before .read .ensures) (c .before .before .before .before .all-pass .ensures .0) (not-false _ (c .before .before .before .if1 .left))), c .seek .ensures .1)
 
 abbrev seek-Inv-loop : seek-lts.InvT-loop
-seek-Inv-loop symbols counts args rows kinds lefts rights statements table first next shapes heads arities subs patterns levels order ends signs firsts seconds literals variables from k chosen values free alone i₀ i =
-    (k < variables) × Trying (repAt table) rows (attemptOf (stageOf (rowsFrom symbols counts args rows) (repAt table) (patternsFrom shapes heads arities subs patterns) order ends) (deadOf (apartBy (repAt table) (differencesOf (statementsFrom kinds lefts rights statements))) levels (literalsFrom signs firsts seconds literals)) (huntOf (stageOf (rowsFrom symbols counts args rows) (repAt table) (patternsFrom shapes heads arities subs patterns) order ends) (deadOf (apartBy (repAt table) (differencesOf (statementsFrom kinds lefts rights statements))) levels (literalsFrom signs firsts seconds literals)) (rowsOf (repAt table) rows free from) (variables - (k + 1)) (k + 1)) k chosen values) alone (huntOf (stageOf (rowsFrom symbols counts args rows) (repAt table) (patternsFrom shapes heads arities subs patterns) order ends) (deadOf (apartBy (repAt table) (differencesOf (statementsFrom kinds lefts rights statements))) levels (literalsFrom signs firsts seconds literals)) (rowsOf (repAt table) rows free from) (variables - k) k chosen values) i
+seek-Inv-loop symbols counts args rows kinds lefts rights statements table closed busy known₀ first next shapes heads arities subs patterns levels order ends signs firsts seconds literals variables from k chosen values free alone i₀ known i =
+    (k < variables)
+    × Knows (contextFrom symbols counts args rows kinds lefts rights statements) known
+    × Trying (repAt table) rows (attemptOf (stageOf (rowsFrom symbols counts args rows) (repAt table) (patternsFrom shapes heads arities subs patterns) order ends) (deadOf (widerBy (contextFrom symbols counts args rows kinds lefts rights statements)) levels (literalsFrom signs firsts seconds literals)) (huntOf (stageOf (rowsFrom symbols counts args rows) (repAt table) (patternsFrom shapes heads arities subs patterns) order ends) (deadOf (widerBy (contextFrom symbols counts args rows kinds lefts rights statements)) levels (literalsFrom signs firsts seconds literals)) (rowsOf (repAt table) rows free from) (variables - (k + 1)) (k + 1)) k chosen values) alone (huntOf (stageOf (rowsFrom symbols counts args rows) (repAt table) (patternsFrom shapes heads arities subs patterns) order ends) (deadOf (widerBy (contextFrom symbols counts args rows kinds lefts rights statements)) levels (literalsFrom signs firsts seconds literals)) (rowsOf (repAt table) rows free from) (variables - k) k chosen values) i
 
 abbrev seek-μ-loop : seek-lts.MeasureT-loop
-seek-μ-loop symbols counts args rows kinds lefts rights statements table first next shapes heads arities subs patterns levels order ends signs firsts seconds literals variables from k chosen values free alone i₀ i =
+seek-μ-loop symbols counts args rows kinds lefts rights statements table closed busy known₀ first next shapes heads arities subs patterns levels order ends signs firsts seconds literals variables from k chosen values free alone i₀ known i =
     rows - i
 
 seek-breach-requires : (t : ℕ) → seek-lts.Need-breach-requires (
@@ -243,7 +253,7 @@ seek-breach-requires : (t : ℕ) → seek-lts.Need-breach-requires (
   clear-reads.Asked,
   clear-reads.Learnt,
 ) (seek-at t) seek.Post seek-Inv-loop seek-μ-loop
-seek-breach-requires t c κs = (omega (arith, c .before .pre .1 .1 .0, c .before .pre .1 .0 .few), c .before .pre .1 .1 .1)
+seek-breach-requires t c κs = (omega (arith, c .before .pre .1 .1 .0 .0, c .before .pre .1 .0 .few), c .before .pre .1 .1 .0 .1)
 
 seek-returns : (t : ℕ) → seek-lts.Need-returns (
   breach-reads.Asked,
@@ -263,7 +273,7 @@ seek-returns : (t : ℕ) → seek-lts.Need-returns (
   clear-reads.Asked,
   clear-reads.Learnt,
 ) (seek-at t) seek.Post seek-Inv-loop seek-μ-loop
-seek-returns t c = c .breach .ensures ∙ ap answerOf (hunt-leaf _ _ _ _ _ _ _ (c .before .if1 .taken))
+seek-returns t c = (c .breach .ensures ∙ ap answerOf (hunt-leaf _ _ _ _ _ _ _ (c .before .if1 .taken)), c .before .before .pre .1 .1 .1 .1)
 
 seek-wide8-requires : (t : ℕ) → seek-lts.Need-wide8-requires (
   breach-reads.Asked,
@@ -363,7 +373,9 @@ seek-loop-holds : (t : ℕ) → seek-lts.Need-loop-holds (
   clear-reads.Asked,
   clear-reads.Learnt,
 ) (seek-at t) seek.Post seek-Inv-loop seek-μ-loop
-seek-loop-holds t c = (c .before .before .before .if1 .left, trying-start _ _ (repAt (c .before .before .before .before .args .table .now)) _ _ _ _ _ _ _ _ _ _ _ (c .before .before .before .if1 .left) (c .before .before .wide8 .ensures) refl (c .before .begins .ensures) (c .own .ensures))
+seek-loop-holds t c =
+    let s = c .before .before .before .before in
+    (c .before .before .before .if1 .left, s .pre .1 .1 .1 .1, trying-start _ _ (repAt (s .args .table .now)) _ _ _ _ _ _ _ _ _ _ _ (c .before .before .before .if1 .left) (c .before .before .wide8 .ensures) refl (c .before .begins .ensures) (c .own .ensures))
 
 seek-add-enter : (t : ℕ) → seek-lts.Need-add-enter (
   breach-reads.Asked,
@@ -383,7 +395,7 @@ seek-add-enter : (t : ℕ) → seek-lts.Need-add-enter (
   clear-reads.Asked,
   clear-reads.Learnt,
 ) (seek-at t) seek.Post seek-Inv-loop seek-μ-loop
-seek-add-enter t c = omega (arith, c .before .loop .inv .0, c .before .before .before .before .before .before .pre .1 .0 .few)
+seek-add-enter t c = omega (arith, c .before .before .loop .inv .0, c .before .before .before .before .before .before .before .pre .1 .0 .few)
 
 seek-choose-requires : (t : ℕ) → seek-lts.Need-choose-requires (
   breach-reads.Asked,
@@ -403,7 +415,7 @@ seek-choose-requires : (t : ℕ) → seek-lts.Need-choose-requires (
   clear-reads.Asked,
   clear-reads.Learnt,
 ) (seek-at t) seek.Post seek-Inv-loop seek-μ-loop
-seek-choose-requires t c κs = (omega (arith, c .before .loop .inv .0, c .before .before .before .before .before .before .pre .1 .0 .few), omega (arith, c .loop-test .taken, c .before .before .before .before .before .before .pre .1 .0 .ledger .few))
+seek-choose-requires t c κs = (omega (arith, c .before .before .loop .inv .0, c .before .before .before .before .before .before .before .pre .1 .0 .few), omega (arith, c .before .loop-test .taken, c .before .before .before .before .before .before .before .pre .1 .0 .ledger .few))
 
 seek-enter-requires : (t : ℕ) → seek-lts.Need-enter-requires (
   breach-reads.Asked,
@@ -423,7 +435,10 @@ seek-enter-requires : (t : ℕ) → seek-lts.Need-enter-requires (
   clear-reads.Asked,
   clear-reads.Learnt,
 ) (seek-at t) seek.Post seek-Inv-loop seek-μ-loop
-seek-enter-requires t c κs = (omega (arith, c .before .before .before .before .before .before .before .pre .0, c .before .before .loop .inv .0), (c .before .before .before .before .before .before .before .pre .1 .0, (omega (arith, c .before .before .loop .inv .0), rw (c .choose .ensures) (chosen-next _ _ _ (omega (arith, c .before .before .loop .inv .0, c .before .before .before .before .before .before .before .pre .1 .0 .few)) (c .before .before .before .before .before .before .before .pre .1 .1 .1)))))
+seek-enter-requires t c κs =
+    let p = c .before .before .before .before .before .before .before .before .pre in
+    let v = c .before .before .before .loop .inv in
+    (omega (arith, p .0, v .0), (p .1 .0, ((omega (arith, v .0), rw (c .choose .ensures) (chosen-next _ _ _ (omega (arith, v .0, p .1 .0 .few)) (p .1 .1 .0 .1))), (p .1 .1 .1 .0, v .1))))
 
 seek-settled-requires : (t : ℕ) → seek-lts.Need-settled-requires (
   breach-reads.Asked,
@@ -463,7 +478,9 @@ seek-returns-2 : (t : ℕ) → seek-lts.Need-returns-2 (
   clear-reads.Asked,
   clear-reads.Learnt,
 ) (seek-at t) seek.Post seek-Inv-loop seek-μ-loop
-seek-returns-2 t c = trying-found (repAt (c .before .before .before .before .before .before .before .before .before .before .args .table .now)) _ _ _ _ _ _ _ (c .before .before .before .before .before .loop .inv .1) (c .before .before .before .before .loop-test .taken) (attempt-enter _ _ _ _ _ _ _ _ _ _ (c .before .before .before .choose .ensures) (c .before .before .enter .ensures)) (c .before .settled .ensures) (c .if2 .taken)
+seek-returns-2 t c =
+    let s = c .before .before .before .before .before .before .before .before .before .before .before in
+    (trying-found (repAt (s .args .table .now)) _ _ _ _ _ _ _ (c .before .before .before .before .before .before .loop .inv .2) (c .before .before .before .before .before .loop-test .taken) (attempt-enter _ _ _ _ _ _ _ _ _ _ (c .before .before .before .choose .ensures) (c .before .before .enter .ensures .0)) (c .before .settled .ensures) (c .if2 .taken), c .before .before .enter .ensures .1)
 
 seek-add-own : (t : ℕ) → seek-lts.Need-add-own (
   breach-reads.Asked,
@@ -503,7 +520,7 @@ seek-own-requires-2 : (t : ℕ) → seek-lts.Need-own-requires-2 (
   clear-reads.Asked,
   clear-reads.Learnt,
 ) (seek-at t) seek.Post seek-Inv-loop seek-μ-loop
-seek-own-requires-2 t c κs = c .before .before .before .before .before .before .before .before .before .before .pre .1 .0 .ledger .few
+seek-own-requires-2 t c κs = c .before .before .before .before .before .before .before .before .before .before .before .pre .1 .0 .ledger .few
 
 seek-loop-less : (t : ℕ) → seek-lts.Need-loop-less (
   breach-reads.Asked,
@@ -523,7 +540,7 @@ seek-loop-less : (t : ℕ) → seek-lts.Need-loop-less (
   clear-reads.Asked,
   clear-reads.Learnt,
 ) (seek-at t) seek.Post seek-Inv-loop seek-μ-loop
-seek-loop-less t c = omega (arith, c .before .before .before .before .before .loop-test .taken, c .own2 .ensures .rises)
+seek-loop-less t c = omega (arith, c .before .before .before .before .before .before .loop-test .taken, c .own2 .ensures .rises)
 
 seek-loop-again : (t : ℕ) → seek-lts.Need-loop-again (
   breach-reads.Asked,
@@ -543,7 +560,9 @@ seek-loop-again : (t : ℕ) → seek-lts.Need-loop-again (
   clear-reads.Asked,
   clear-reads.Learnt,
 ) (seek-at t) seek.Post seek-Inv-loop seek-μ-loop
-seek-loop-again t c = (c .before .before .before .before .before .before .loop .inv .0, trying-next (repAt (c .before .before .before .before .before .before .before .before .before .before .before .args .table .now)) _ _ _ _ _ _ _ _ (c .before .before .before .before .before .before .loop .inv .1) (c .before .before .before .before .before .loop-test .taken) (attempt-enter _ _ _ _ _ _ _ _ _ _ (c .before .before .before .before .choose .ensures) (c .before .before .before .enter .ensures)) (c .before .before .settled .ensures) (c .before .if2 .left) (c .own2 .ensures))
+seek-loop-again t c =
+    let s = c .before .before .before .before .before .before .before .before .before .before .before .before in
+    (c .before .before .before .before .before .before .before .loop .inv .0, c .before .before .before .enter .ensures .1, trying-next (repAt (s .args .table .now)) _ _ _ _ _ _ _ _ (c .before .before .before .before .before .before .before .loop .inv .2) (c .before .before .before .before .before .before .loop-test .taken) (attempt-enter _ _ _ _ _ _ _ _ _ _ (c .before .before .before .before .choose .ensures) (c .before .before .before .enter .ensures .0)) (c .before .before .settled .ensures) (c .before .if2 .left) (c .own2 .ensures))
 
 seek-clear-requires : (t : ℕ) → seek-lts.Need-clear-requires (
   breach-reads.Asked,
@@ -583,7 +602,7 @@ seek-returns-3 : (t : ℕ) → seek-lts.Need-returns-3 (
   clear-reads.Asked,
   clear-reads.Learnt,
 ) (seek-at t) seek.Post seek-Inv-loop seek-μ-loop
-seek-returns-3 t c = c .clear .ensures ∙ ap answerOf (trying-done (repAt (c .before .before .before .before .before .before .before .args .table .now)) _ _ _ _ _ (c .before .before .loop .inv .1) (c .before .loop-test .left))
+seek-returns-3 t c = (c .clear .ensures ∙ ap answerOf (trying-done (repAt (c .before .before .before .before .before .before .before .args .table .now)) _ _ _ _ _ (c .before .before .loop .inv .2) (c .before .loop-test .left)), c .before .before .loop .inv .1)
 
 pub +enter+seek-spec : {M : Type 1} → statement M
 +enter+seek-spec = close μ-enter μ-seek (λ t. enter-lts.spec (

@@ -18,10 +18,12 @@ unset-requires : tie.Need-unset-requires
 unset-requires c κs = search needs
 
 enter-requires : tie.Need-enter-requires
-enter-requires c κs = (ready-hunting (c .before .before .before .before .before .before .before .pre) (c .before .before .before .before .before .before .link .ensures), (omega arith, chosen-start _ (c .before .unset .ensures)))
+enter-requires c κs =
+    let p = c .before .before .before .before .before .before .before .before .pre in
+    (ready-hunting (p .0) (c .before .before .before .before .before .before .before .link .ensures), ((omega arith, chosen-start _ (c .before .unset .ensures)), p .1))
 
 returns : tie.Need-returns
-returns c = c .enter .ensures ∙ ap answerOf (start-enter _ _ _ _ _ _ (c .before .before .unset .ensures) (c .before .before .before .before .before .before .unread .ensures))
+returns c = (c .enter .ensures .0 ∙ ap answerOf (start-enter _ _ _ _ _ _ (c .before .before .unset .ensures) (c .before .before .before .before .before .before .before .unread .ensures)), c .enter .ensures .1)
 
 pub start-spec : {M : Type 1} → statement M
 start-spec =

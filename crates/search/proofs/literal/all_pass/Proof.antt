@@ -5,10 +5,9 @@ use mathlib.Core.Bool.{true}
 use mathlib.Core.Path.{_≡_, sym, _∙_}
 use lib.ListN.{getD}
 use borrow.Author.Tests.{not-true, not-false}
-use Rattle.meaning.specs.Context.{differencesOf}
-use Rattle.meaning.specs.Equality.{repAt}
-use Rattle.meaning.specs.ByTable.{apartBy}
-use Rattle.meaning.specs.Columns.{statementsFrom, literalOf}
+use Rattle.meaning.specs.Columns.{literalOf, contextFrom}
+use Rattle.meaning.proofs.FollowingNumbers.{widerBy}
+use Rattle.differing.specs.Knowing.{Knows}
 use Rattle.meaning.proofs.Due.{due}
 use Rattle.columns.specs.Fit.{Every}
 use Rattle.columns.proofs.Deciding.{every-none, every-more}
@@ -20,19 +19,25 @@ use Rattle.search.proofs.literal.all_pass.Statement.{statement}
 use Rattle.search.proofs.literal.all_pass.Tie as tie
 
 abbrev Inv-loop : tie.InvT-loop
-Inv-loop kinds lefts rights statements table levels signs firsts seconds literals level values l₀ l = Every l (λ i. passesOf (apartBy (repAt table) (differencesOf (statementsFrom kinds lefts rights statements))) (due level levels) values (literalOf (getD signs i 0) (getD firsts i 0) (getD seconds i 0)) ≡ true)
+Inv-loop symbols counts args rows kinds lefts rights statements closed busy known₀ levels signs firsts seconds literals level values l₀ known l =
+    Knows (contextFrom symbols counts args rows kinds lefts rights statements) known
+    × Every l (λ i. passesOf (widerBy (contextFrom symbols counts args rows kinds lefts rights statements)) (due level levels) values (literalOf (getD signs i 0) (getD firsts i 0) (getD seconds i 0)) ≡ true)
 
 abbrev μ-loop : tie.MeasureT-loop
-μ-loop kinds lefts rights statements table levels signs firsts seconds literals level values l₀ l = literals - l
+μ-loop symbols counts args rows kinds lefts rights statements closed busy known₀ levels signs firsts seconds literals level values l₀ known l = literals - l
 
 loop-holds : tie.Need-loop-holds Inv-loop μ-loop
-loop-holds c = every-none
+loop-holds c = (c .pre .1 .0, every-none)
 
 passes-requires : tie.Need-passes-requires Inv-loop μ-loop
-passes-requires c κs = (c .before .before .pre .0, (omega (arith, c .before .before .pre .1 .few), c .before .before .pre .1 .named .each _ (c .loop-test .taken)))
+passes-requires c κs =
+    let p = c .before .before .before .pre in
+    (p .0, (c .before .before .loop .inv .0, (omega (arith, p .1 .1 .few, c .before .loop-test .taken), p .1 .1 .named .each _ (c .before .loop-test .taken))))
 
 returns : tie.Need-returns Inv-loop μ-loop
-returns c = one-failed (apartBy (repAt (c .before .before .before .before .args .table .now)) (differencesOf (statementsFrom (c .before .before .before .before .args .kinds .now) (c .before .before .before .before .args .lefts .now) (c .before .before .before .before .args .rights .now) (c .before .before .before .before .args .statements)))) (due (c .before .before .before .before .args .level) (c .before .before .before .before .args .levels .now)) (c .before .before .before .before .args .values .now) _ _ _ _ _ (c .before .before .loop-test .taken) (sym (c .before .passes .ensures) ∙ not-true _ (c .if1 .taken))
+returns c =
+    let s = c .before .before .before .before .before in
+    (one-failed _ (due (s .args .level) (s .args .levels .now)) (s .args .values .now) _ _ _ _ _ (c .before .before .before .loop-test .taken) (sym (c .before .passes .ensures .0) ∙ not-true _ (c .if1 .taken)), c .before .passes .ensures .1)
 
 add-l : tie.Need-add-l Inv-loop μ-loop
 add-l c = search needs
@@ -41,10 +46,12 @@ loop-less : tie.Need-loop-less Inv-loop μ-loop
 loop-less c = search needs
 
 loop-again : tie.Need-loop-again Inv-loop μ-loop
-loop-again c = every-more (c .before .before .before .loop .inv) (sym (c .before .passes .ensures) ∙ not-false _ (c .if1 .left))
+loop-again c = (c .before .passes .ensures .1, every-more (c .before .before .before .before .loop .inv .1) (sym (c .before .passes .ensures .0) ∙ not-false _ (c .if1 .left)))
 
 returns-2 : tie.Need-returns-2 Inv-loop μ-loop
-returns-2 c = all-passed (apartBy (repAt (c .before .before .args .table .now)) (differencesOf (statementsFrom (c .before .before .args .kinds .now) (c .before .before .args .lefts .now) (c .before .before .args .rights .now) (c .before .before .args .statements)))) (due (c .before .before .args .level) (c .before .before .args .levels .now)) (c .before .before .args .values .now) _ _ _ _ (λ i h. c .before .loop .inv .each i (omega arith))
+returns-2 c =
+    let s = c .before .before in
+    (all-passed _ (due (s .args .level) (s .args .levels .now)) (s .args .values .now) _ _ _ _ (λ i h. c .before .loop .inv .1 .each i (omega arith)), c .before .loop .inv .0)
 
 pub all-pass-spec : {M : Type 1} → statement M
 all-pass-spec =

@@ -1,10 +1,6 @@
 -- `search::literal::passes` meets its contract.
 -- Assumes nothing.
 use mathlib.Core.Path.{refl}
-use Rattle.meaning.specs.Context.{differencesOf}
-use Rattle.meaning.specs.Equality.{repAt}
-use Rattle.meaning.specs.ByTable.{apartBy}
-use Rattle.meaning.specs.Columns.{statementsFrom}
 use Rattle.search.proofs.Testing.{pass-early, pass-equal, pass-unequal}
 use borrow.Author.Needs.{needs}
 use Rattle.search.proofs.literal.passes.Statement.{statement}
@@ -38,7 +34,9 @@ more-requires : tie.Need-more-requires
 more-requires c κs = search needs
 
 returns : tie.Need-returns
-returns c = pass-early (apartBy (repAt (c .before .before .before .before .before .before .before .before .args .table .now)) (differencesOf (statementsFrom (c .before .before .before .before .before .before .before .before .args .kinds .now) (c .before .before .before .before .before .before .before .before .args .lefts .now) (c .before .before .before .before .before .before .before .before .args .rights .now) (c .before .before .before .before .before .before .before .before .args .statements)))) (c .before .before .before .before .before .before .before .before .args .level) (c .before .before .before .before .before .before .before .before .args .levels .now) (c .before .before .before .before .before .before .before .before .args .values .now) _ _ _ _ _ _ (c .before .before .before .before .before .before .wide .ensures) (c .before .before .before .before .wide2 .ensures) (c .before .more .ensures) (c .if1 .taken)
+returns c =
+    let s = c .before .before .before .before .before .before .before .before in
+    (pass-early _ (s .args .level) (s .args .levels .now) (s .args .values .now) _ _ _ _ _ _ (c .before .before .before .before .before .before .wide .ensures) (c .before .before .before .before .wide2 .ensures) (c .before .more .ensures) (c .if1 .taken), s .pre .1 .0)
 
 mul-n : tie.Need-mul-n
 mul-n c = search needs
@@ -56,13 +54,17 @@ element-copy-out-if2 : tie.Need-element-copy-out-if2
 element-copy-out-if2 c = search needs
 
 returns-2 : tie.Need-returns-2
-returns-2 c = pass-equal (apartBy (repAt (c .before .before .before .before .before .before .before .before .before .before .before .before .args .table .now)) (differencesOf (statementsFrom (c .before .before .before .before .before .before .before .before .before .before .before .before .args .kinds .now) (c .before .before .before .before .before .before .before .before .before .before .before .before .args .lefts .now) (c .before .before .before .before .before .before .before .before .before .before .before .before .args .rights .now) (c .before .before .before .before .before .before .before .before .before .before .before .before .args .statements)))) (c .before .before .before .before .before .before .before .before .before .before .before .before .args .level) (c .before .before .before .before .before .before .before .before .before .before .before .before .args .levels .now) (c .before .before .before .before .before .before .before .before .before .before .before .before .args .values .now) _ _ _ _ _ _ (c .before .before .before .before .before .before .before .before .before .before .wide .ensures) (c .before .before .before .before .before .before .before .before .wide2 .ensures) (c .before .before .before .before .before .more .ensures) (c .before .before .before .before .if1 .left) _ (c .if2 .taken) refl
+returns-2 c =
+    let s = c .before .before .before .before .before .before .before .before .before .before .before .before in
+    (pass-equal _ (s .args .level) (s .args .levels .now) (s .args .values .now) _ _ _ _ _ _ (c .before .before .before .before .before .before .before .before .before .before .wide .ensures) (c .before .before .before .before .before .before .before .before .wide2 .ensures) (c .before .before .before .before .before .more .ensures) (c .before .before .before .before .if1 .left) _ (c .if2 .taken) refl, s .pre .1 .0)
 
-differ-requires : tie.Need-differ-requires
-differ-requires c κs = search needs
+ask-requires : tie.Need-ask-requires
+ask-requires c κs = let p = c .before .before .before .before .before .before .before .before .before .before .before .before .before .pre in (p .0, p .1 .0)
 
 returns-3 : tie.Need-returns-3
-returns-3 c = pass-unequal (apartBy (repAt (c .before .before .before .before .before .before .before .before .before .before .before .before .before .args .table .now)) (differencesOf (statementsFrom (c .before .before .before .before .before .before .before .before .before .before .before .before .before .args .kinds .now) (c .before .before .before .before .before .before .before .before .before .before .before .before .before .args .lefts .now) (c .before .before .before .before .before .before .before .before .before .before .before .before .before .args .rights .now) (c .before .before .before .before .before .before .before .before .before .before .before .before .before .args .statements)))) (c .before .before .before .before .before .before .before .before .before .before .before .before .before .args .level) (c .before .before .before .before .before .before .before .before .before .before .before .before .before .args .levels .now) (c .before .before .before .before .before .before .before .before .before .before .before .before .before .args .values .now) _ _ _ _ _ _ (c .before .before .before .before .before .before .before .before .before .before .before .wide .ensures) (c .before .before .before .before .before .before .before .before .before .wide2 .ensures) (c .before .before .before .before .before .before .more .ensures) (c .before .before .before .before .before .if1 .left) _ (c .before .if2 .left) (c .differ .ensures)
+returns-3 c =
+    let s = c .before .before .before .before .before .before .before .before .before .before .before .before .before .before in
+    (pass-unequal _ (s .args .level) (s .args .levels .now) (s .args .values .now) _ _ _ _ _ _ (c .before .before .before .before .before .before .before .before .before .before .before .before .wide .ensures) (c .before .before .before .before .before .before .before .before .before .before .wide2 .ensures) (c .before .before .before .before .before .before .before .more .ensures) (c .before .before .before .before .before .before .if1 .left) _ (c .before .before .if2 .left) (c .ask .ensures .0), c .ask .ensures .1)
 
 pub passes-spec : {M : Type 1} → statement M
 passes-spec =
@@ -84,5 +86,5 @@ passes-spec =
     element-copy-out-m
     element-copy-out-if2
     returns-2
-    differ-requires
+    ask-requires
     returns-3)

@@ -15,20 +15,26 @@ abbrev μ-loop : tie.MeasureT-loop
 loop-holds : tie.Need-loop-holds Inv-loop μ-loop
 loop-holds c = search starting
 
-mul-state : tie.Need-mul-state Inv-loop μ-loop
-mul-state c = search starting
+mul-join-pair : tie.Need-mul-join-pair Inv-loop μ-loop
+mul-join-pair c = search starting
 
-element-copy-out-state : tie.Need-element-copy-out-state Inv-loop μ-loop
-element-copy-out-state c = search starting
+element-copy-out-join-pair : tie.Need-element-copy-out-join-pair Inv-loop μ-loop
+element-copy-out-join-pair c = search starting
 
-mul-state-2 : tie.Need-mul-state-2 Inv-loop μ-loop
-mul-state-2 c = search starting
+mul-join-pair-2 : tie.Need-mul-join-pair-2 Inv-loop μ-loop
+mul-join-pair-2 c = search starting
 
-element-copy-out-state-2 : tie.Need-element-copy-out-state-2 Inv-loop μ-loop
-element-copy-out-state-2 c = search starting
+element-copy-out-join-pair-2 : tie.Need-element-copy-out-join-pair-2 Inv-loop μ-loop
+element-copy-out-join-pair-2 c = search starting
 
-state-requires : tie.Need-state-requires Inv-loop μ-loop
-state-requires c κs = search starting
+add-join-pair : tie.Need-add-join-pair Inv-loop μ-loop
+add-join-pair c = search starting
+
+cast-join-pair : tie.Need-cast-join-pair Inv-loop μ-loop
+cast-join-pair c = search starting
+
+join-pair-requires : tie.Need-join-pair-requires Inv-loop μ-loop
+join-pair-requires c κs = search starting
 
 add-i : tie.Need-add-i Inv-loop μ-loop
 add-i c = search starting
@@ -49,11 +55,13 @@ state-all-spec =
     Inv-loop
     μ-loop
     loop-holds
-    mul-state
-    element-copy-out-state
-    mul-state-2
-    element-copy-out-state-2
-    state-requires
+    mul-join-pair
+    element-copy-out-join-pair
+    mul-join-pair-2
+    element-copy-out-join-pair-2
+    add-join-pair
+    cast-join-pair
+    join-pair-requires
     add-i
     loop-less
     loop-again

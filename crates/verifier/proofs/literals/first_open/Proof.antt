@@ -9,14 +9,14 @@ use Rattle.verifier.proofs.literals.first_open.Statement.{statement}
 use Rattle.verifier.proofs.literals.first_open.Tie as tie
 
 abbrev Inv-loop : tie.InvT-loop
-Inv-loop kinds lefts rights literals firsts seconds differences orientations ps qs count words limit numbers rows patterns j₀ j =
+Inv-loop kinds lefts rights literals firsts differences ps qs count words limit numbers rows patterns j₀ j =
     Running
-    (concludedWords numbers rows patterns (pairsFrom ps qs count) (sidesOf words) limit firsts seconds differences orientations kinds lefts rights)
+    (concludedWords numbers rows patterns (pairsFrom ps qs count) (sidesOf words) limit firsts differences kinds lefts rights)
     literals
     j
 
 abbrev μ-loop : tie.MeasureT-loop
-μ-loop kinds lefts rights literals firsts seconds differences orientations ps qs count words limit numbers rows patterns j₀ j = literals - j
+μ-loop kinds lefts rights literals firsts differences ps qs count words limit numbers rows patterns j₀ j = literals - j
 
 loop-holds : tie.Need-loop-holds Inv-loop μ-loop
 loop-holds c = search mine

@@ -1,4 +1,4 @@
--- `verifier::sides::cited` meets its contract. A step that is not among the first is not cited; another is by its two sides.
+-- `verifier::sides::cited` meets its contract. A step that is not among the first is not cited; another is by its owner and its two sides.
 -- Assumes nothing.
 use borrow.Author.Needs.{needs}
 use Rattle.verifier.proofs.Numbers.{mine}
@@ -14,29 +14,29 @@ sub-place c = search needs
 returns-2 : tie.Need-returns-2
 returns-2 c = search mine
 
-mul-left-side : tie.Need-mul-left-side
-mul-left-side c = search needs
+mul-word : tie.Need-mul-word
+mul-word c = search needs
 
-shared-slice-read-left-side : tie.Need-shared-slice-read-left-side
-shared-slice-read-left-side c = search needs
+shared-slice-read-word : tie.Need-shared-slice-read-word
+shared-slice-read-word c = search needs
 
-left-side-requires : tie.Need-left-side-requires
-left-side-requires c κs = search mine
+usable-requires : tie.Need-usable-requires
+usable-requires c κs = search mine
 
 returns-3 : tie.Need-returns-3
 returns-3 c = search mine
 
-mul-right-side : tie.Need-mul-right-side
-mul-right-side c = search needs
+left-side-requires : tie.Need-left-side-requires
+left-side-requires c κs = search mine
 
-shared-slice-read-right-side : tie.Need-shared-slice-read-right-side
-shared-slice-read-right-side c = search needs
+returns-4 : tie.Need-returns-4
+returns-4 c = search mine
 
 right-side-requires : tie.Need-right-side-requires
 right-side-requires c κs = search mine
 
-returns-4 : tie.Need-returns-4
-returns-4 c = search mine
+returns-5 : tie.Need-returns-5
+returns-5 c = search mine
 
 pub cited-spec : {M : Type 1} → statement M
 cited-spec =
@@ -45,11 +45,11 @@ cited-spec =
     returns
     sub-place
     returns-2
-    mul-left-side
-    shared-slice-read-left-side
-    left-side-requires
+    mul-word
+    shared-slice-read-word
+    usable-requires
     returns-3
-    mul-right-side
-    shared-slice-read-right-side
+    left-side-requires
+    returns-4
     right-side-requires
-    returns-4)
+    returns-5)

@@ -7,10 +7,10 @@ use Rattle.verifier.proofs.steps.arguments.Statement.{statement}
 use Rattle.verifier.proofs.steps.arguments.Tie as tie
 
 abbrev Inv-loop : tie.InvT-loop
-Inv-loop args words limit numbers rows patterns y z p q count k₀ k = Cited numbers rows patterns words limit y z args p q count k
+Inv-loop args words limit owner numbers rows patterns y z p q count k₀ k = Cited numbers rows patterns words limit owner y z args p q count k
 
 abbrev μ-loop : tie.MeasureT-loop
-μ-loop args words limit numbers rows patterns y z p q count k₀ k = count - k
+μ-loop args words limit owner numbers rows patterns y z p q count k₀ k = count - k
 
 loop-holds : tie.Need-loop-holds Inv-loop μ-loop
 loop-holds c = search mine

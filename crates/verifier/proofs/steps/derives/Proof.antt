@@ -31,8 +31,14 @@ congruent-requires c κs = (search mine, (search mine, (search mine, (search min
 returns-5 : tie.Need-returns-5
 returns-5 c = search mine
 
+added-requires : tie.Need-added-requires
+added-requires c κs = search mine
+
 returns-6 : tie.Need-returns-6
 returns-6 c = search mine
+
+returns-7 : tie.Need-returns-7
+returns-7 c = search mine
 
 pub derives-spec : {M : Type 1} → statement M
 derives-spec =
@@ -47,4 +53,6 @@ derives-spec =
     returns-4
     congruent-requires
     returns-5
-    returns-6)
+    added-requires
+    returns-6
+    returns-7)

@@ -3,22 +3,22 @@
 use borrow.Author.Needs.{needs}
 use Prim.Native.Nat.{_+_, _-_}
 use lib.ListN.{length}
-use Rattle.meaning.specs.Columns.{rowsFrom}
+use Rattle.meaning.specs.Columns.{rowsFrom, literalsFrom}
 use Rattle.meaning.specs.Checking.{followsBy}
 use Rattle.meaning.specs.GroundColumns.{stepsFrom, pairsFrom}
-use Rattle.verifier.proofs.Running.{mine, Running, running-next, ends-here}
+use Rattle.verifier.proofs.Running.{mine, Running, running-next, ends-here, inside-third}
 use Rattle.verifier.proofs.steps.first_bad.Statement.{statement}
 use Rattle.verifier.proofs.steps.first_bad.Tie as tie
 
 abbrev Inv-loop : tie.InvT-loop
-Inv-loop symbols counts args lefts rights equations numbers rows patterns firsts seconds thirds n i₀ i =
+Inv-loop symbols counts args lefts rights equations signs ls rs literals numbers rows patterns firsts seconds thirds n i₀ i =
     Running
-    (followsBy numbers rows patterns (rowsFrom symbols counts args (rows + patterns)) (pairsFrom lefts rights equations) (stepsFrom firsts seconds thirds))
+    (followsBy numbers rows patterns (rowsFrom symbols counts args (rows + patterns)) (pairsFrom lefts rights equations) (literalsFrom signs ls rs literals) (stepsFrom firsts seconds thirds))
     (length (stepsFrom firsts seconds thirds))
     i
 
 abbrev μ-loop : tie.MeasureT-loop
-μ-loop symbols counts args lefts rights equations numbers rows patterns firsts seconds thirds n i₀ i = n - i
+μ-loop symbols counts args lefts rights equations signs ls rs literals numbers rows patterns firsts seconds thirds n i₀ i = n - i
 
 shortest-requires : tie.Need-shortest-requires Inv-loop μ-loop
 shortest-requires c κs = search needs
@@ -27,7 +27,8 @@ loop-holds : tie.Need-loop-holds Inv-loop μ-loop
 loop-holds c = search mine
 
 follows-requires : tie.Need-follows-requires Inv-loop μ-loop
-follows-requires c κs = (search mine, (search mine, (search mine, (search mine, (search mine, search mine)))))
+follows-requires c κs =
+    (search mine, (search mine, (search mine, (search mine, (search mine, (search mine, inside-third _ _ _ _ _ (c .before .before .shortest .ensures) (c .loop-test .taken)))))))
 
 returns : tie.Need-returns Inv-loop μ-loop
 returns c = ends-here _ _ _ _ (c .before .before .before .loop .inv) (search mine) (c .before .follows .ensures) (c .if1 .taken)

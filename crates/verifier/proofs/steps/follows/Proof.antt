@@ -1,7 +1,7 @@
--- `verifier::steps::follows` meets its contract. The owner is 0, both sides are there, and the kind's own test decides.
+-- `verifier::steps::follows` meets its contract. The owner is there, both sides are there, and the kind's own test decides.
 -- Assumes nothing.
 use borrow.Author.Needs.{needs}
-use Rattle.verifier.proofs.Following.{mine}
+use Rattle.verifier.proofs.Following.{mine, follows-derives}
 use Rattle.verifier.proofs.steps.follows.Statement.{statement}
 use Rattle.verifier.proofs.steps.follows.Tie as tie
 
@@ -10,6 +10,9 @@ mul-word c = search needs
 
 shared-slice-read-word : tie.Need-shared-slice-read-word
 shared-slice-read-word c = search needs
+
+owner-there-requires : tie.Need-owner-there-requires
+owner-there-requires c κs = search mine
 
 returns : tie.Need-returns
 returns c = search mine
@@ -45,10 +48,21 @@ shared-slice-read-derives-2 : tie.Need-shared-slice-read-derives-2
 shared-slice-read-derives-2 c = search needs
 
 derives-requires : tie.Need-derives-requires
-derives-requires c κs = (search mine, (search mine, (search mine, (search mine, (search mine, search mine)))))
+derives-requires c κs = (search mine, (search mine, (search mine, (search mine, (search mine, (search mine, search mine))))))
 
 returns-4 : tie.Need-returns-4
-returns-4 c = search mine
+returns-4 c =
+    follows-derives _ _ _ _ (c .before .before .before .before .before .before .before .before .before .before .before .before .before .pre .1 .1 .1 .1 .0)
+    (c .before .before .before .before .before .before .before .before .before .before .before .before .before .pre .1 .1 .1 .1 .1 .0)
+    (c .before .before .before .before .before .before .before .before .before .before .before .before .before .pre .1 .1 .1 .1 .1 .1)
+    _ _ _ _ _ _ _ _ _ _ _ _ _
+    (c .before .before .before .before .before .before .before .before .owner-there .ensures)
+    (c .before .before .before .before .before .before .before .if1 .left)
+    (c .before .before .before .before .before .before .left-side .ensures)
+    (c .before .before .before .before .before .if2 .left)
+    (c .before .before .before .before .right-side .ensures)
+    (c .before .before .before .if3 .left)
+    (c .derives .ensures)
 
 pub follows-spec : {M : Type 1} → statement M
 follows-spec =
@@ -56,6 +70,7 @@ follows-spec =
     (tie.spec
     mul-word
     shared-slice-read-word
+    owner-there-requires
     returns
     left-side-requires
     add-if2

@@ -1,0 +1,307 @@
+-- The words that are written hold the steps that are sent.
+--     step-word       a step in three words
+--     stepsFrom-snoc  one word more in each column is one step more
+--     Emitting        after so many steps of a column: the steps in the words are those sent, and every later place is as before
+--     emitted-all     after all steps
+-- Assumes nothing.
+use mathlib.Core.Bool.{Bool, true, false}
+use mathlib.Core.List.{List, [], _∷_, _++_}
+use mathlib.Core.Path.{_≡_, refl, ap, ap₂, sym, _∙_, subst, subst₂}
+use Prim.Native.Nat.{ℕ, zero, suc, _+_, _*_, _/_, _%_, _≤_, _<_}
+use native.Mathlib.Omega.{arith}
+use lib.Dec.{eqb, ltb}
+use borrow.Author.Tests.{eqb-true, eqb-false, lt-ltb, le-ltb, ltb-true, ltb-false}
+use lib.ListN.{length, getD, set, take, drop, length-set, length-take}
+use lib.Seq.{take-suc-set, drop-set-lt, drop-drop}
+use Rattle.meaning.specs.Context.{Context}
+use Rattle.meaning.specs.Rules.{Clause}
+use Rattle.meaning.specs.Grounds.{Ref, Step, stepAt, Stands, for-row, for-instance, Derives, by-statement, by-reflexivity, by-symmetry, by-transitivity, by-congruence, by-addition, Follows}
+use Rattle.meaning.specs.GroundColumns.{stepFrom, stepsFrom}
+use Rattle.meaning.proofs.Lists.{length-snoc}
+use Rattle.grounding.specs.Draft.{refOf, stepOf, countIn, ownerAt, stepIn, draft}
+use Rattle.grounding.specs.Classes.{upto}
+use Rattle.grounding.proofs.Drafts.{Follow, length-draft}
+use Rattle.batches.specs.Marking.{kept}
+use Rattle.batches.specs.Sending.{newOf, newIn, wordOf, twoIn, wordIn, numbersWord, Out, stepsIn, written, sendOne, sent}
+use Rattle.batches.proofs.Marks.{draft-at}
+use Rattle.batches.proofs.Sends.{new-at, new-none, renamed, renamed-cites, renamed-plain, Closed, Sending, sending-skip, sending-send}
+
+-- ---- words
+
+pub step-word : (owner kind mark row mark′ row′ a b c d : ℕ) → kind < 256 → mark < 256 → row < 65536 → mark′ < 256 → row′ < 65536 → a < 4294967296 → b < 4294967296
+    → c < 4294967296
+    → d < 4294967296
+    → stepFrom (wordOf owner kind mark row mark′ row′) (twoIn a b) (twoIn c d)
+    ≡ record { owner = owner; kind = kind; left = record { mark = mark; row = row }; right = record { mark = mark′; row = row′ }; numbers = a ∷ b ∷ c ∷ d ∷ [] }
+unfolding stepFrom
+step-word owner kind mark row mark′ row′ a b c d hk hm hr hm′ hr′ ha hb hc hd =
+    let x : ℕ = wordOf owner kind mark row mark′ row′ in
+    let e₁ : x / 72057594037927936 ≡ owner = omega arith in
+    let e₂ : x / 281474976710656 % 256 ≡ kind = omega arith in
+    let e₃ : x / 1099511627776 % 256 ≡ mark = omega arith in
+    let e₄ : x / 16777216 % 65536 ≡ row = omega arith in
+    let e₅ : x / 65536 % 256 ≡ mark′ = omega arith in
+    let e₆ : x % 65536 ≡ row′ = omega arith in
+    let f₁ : twoIn a b / 4294967296 ≡ a = omega arith in
+    let f₂ : twoIn a b % 4294967296 ≡ b = omega arith in
+    let g₁ : twoIn c d / 4294967296 ≡ c = omega arith in
+    let g₂ : twoIn c d % 4294967296 ≡ d = omega arith in
+    rw (e₁, e₂, e₃, e₄, e₅, e₆, f₁, f₂, g₁, g₂)
+
+pub stepsFrom-snoc : (xs ys zs : List ℕ) (x y z : ℕ) → length xs ≡ length ys → length ys ≡ length zs
+    → stepsFrom (xs ++ (x ∷ [])) (ys ++ (y ∷ [])) (zs ++ (z ∷ [])) ≡ stepsFrom xs ys zs ++ (stepFrom x y z ∷ [])
+unfolding stepsFrom
+stepsFrom-snoc [] [] [] x y z e f = refl
+stepsFrom-snoc [] [] (c ∷ zs) x y z e f = absurd (omega arith)
+stepsFrom-snoc [] (b ∷ ys) zs x y z e f = absurd (omega arith)
+stepsFrom-snoc (a ∷ xs) [] zs x y z e f = absurd (omega arith)
+stepsFrom-snoc (a ∷ xs) (b ∷ ys) [] x y z e f = absurd (omega arith)
+stepsFrom-snoc (a ∷ xs) (b ∷ ys) (c ∷ zs) x y z e f = ap (λ (l : List Step). stepFrom a b c ∷ l) (stepsFrom-snoc xs ys zs x y z (omega arith) (omega arith))
+
+drop-later : (l l₀ : List ℕ) (i v : ℕ) → drop i l ≡ drop i l₀ → drop (i + 1) (set l i v) ≡ drop (i + 1) l₀
+drop-later l l₀ i v e = drop-set-lt (i + 1) l i v (omega arith) ∙ sym (drop-drop 1 i l) ∙ ap (drop 1) e ∙ drop-drop 1 i l₀
+
+-- ---- what a step that follows holds fits its places
+
+-- the places of each step of a column are of 16 bits
+pub record Small (cells : List ℕ) : Type 0 where
+  pub places : (i : ℕ) → i < countIn cells → (j : ℕ) → 0 < j → j ≤ 7 → getD cells (i * 7 + j) 0 < 65536
+
+module _ (c : Context) (k : Clause) (a : List ℕ) (rows : length (c .rows) ≤ 255) (patterns : length (k .patterns) ≤ 64) where
+  stands-small : (r : Ref) {t : _} → Stands c k a r t → (r .mark < 256) × (r .row < 65536)
+  stands-small r (for-row e h q) = (omega arith, omega arith)
+  stands-small r (for-instance e h q) = (omega arith, omega arith)
+
+  kind-small : (earlier : List Step) (s : Step) {t u : _} → Derives c k a earlier s t u → s .kind < 256
+  kind-small earlier s (by-statement e w) = omega arith
+  kind-small earlier s (by-reflexivity e w) = omega arith
+  kind-small earlier s (by-symmetry e w) = omega arith
+  kind-small earlier s (by-transitivity e m v w) = omega arith
+  kind-small earlier s (by-congruence e f ts us p q w) = omega arith
+  kind-small earlier s (by-addition e w) = omega arith
+
+  module _ (from owner : ℕ) (cells : List ℕ) (follow : Follow c k a (draft (length (c .rows)) from owner cells)) (small : Small cells) where
+    abbrev n : ℕ
+    n = countIn cells
+
+    abbrev steps : List Step
+    steps = draft (length (c .rows)) from owner cells
+
+    abbrev stepOn : ℕ → Step
+    stepOn i = stepIn (length (c .rows)) from owner cells i
+
+    abbrev cell : ℕ → ℕ → ℕ
+    cell i j = getD cells (i * 7 + j) 0
+
+    step-parts : (i : ℕ) → i < n
+        → (stepOn i .kind < 256) × (((stepOn i .left .mark < 256) × (stepOn i .left .row < 65536)) × ((stepOn i .right .mark < 256) × (stepOn i .right .row < 65536)))
+    step-parts i h =
+        subst (λ (s : Step). (s .kind < 256) × (((s .left .mark < 256) × (s .left .row < 65536)) × ((s .right .mark < 256) × (s .right .row < 65536))))
+        (draft-at (length (c .rows)) from owner cells i h) (
+          kind-small (take i steps) (stepAt steps i) (f .derives),
+          (stands-small (stepAt steps i .left) (f .left), stands-small (stepAt steps i .right) (f .right)),
+        )
+      where
+        f : Follows c k a (take i steps) (stepAt steps i)
+        f = follow i (omega (arith, length-draft (length (c .rows)) from owner cells))
+
+    -- ---- one step, by new numbers
+
+    module _ (news : List ℕ) (fits : (r : ℕ) → newOf news r < 4294967296) where
+      new-cites : (kind r : ℕ) → 2 < kind → newIn news kind r ≡ newOf news r
+      unfolding newIn
+      new-cites kind r h = rw (lt-ltb 2 kind h, newIn)
+
+      new-plain : (kind r : ℕ) → kind ≤ 2 → newIn news kind r ≡ r
+      unfolding newIn
+      new-plain kind r h = rw (le-ltb 2 kind h, newIn)
+
+      new-small : (kind r : ℕ) → r < 65536 → newIn news kind r < 4294967296
+      new-small kind r h = go (ltb 2 kind) refl
+        where
+          go : (b : Bool) → ltb 2 kind ≡ b → newIn news kind r < 4294967296
+          go true e = omega (arith, new-cites kind r (ltb-true 2 kind e), fits r)
+          go false e = omega (arith, new-plain kind r (ltb-false 2 kind e))
+
+      words-step : (i : ℕ) → i < n
+          → stepFrom (wordIn (length (c .rows)) (ownerAt from owner i) (cell i 1) (cell i 2) (cell i 3)) (numbersWord news (cell i 1) (cell i 4) (cell i 5)) (numbersWord news (cell i 1) (cell i 6) (cell i 7))
+          ≡ renamed (newOf news) (stepOn i)
+      unfolding stepIn stepOf renamed
+      words-step i h =
+          step-word (ownerAt from owner i) (cell i 1) (refOf (length (c .rows)) (cell i 2) .mark) (refOf (length (c .rows)) (cell i 2) .row) (refOf (length (c .rows)) (cell i 3) .mark)
+          (refOf (length (c .rows)) (cell i 3) .row)
+          (newIn news (cell i 1) (cell i 4))
+          (newIn news (cell i 1) (cell i 5))
+          (newIn news (cell i 1) (cell i 6))
+          (newIn news (cell i 1) (cell i 7))
+          (p .0)
+          (p .1 .0 .0)
+          (p .1 .0 .1)
+          (p .1 .1 .0)
+          (p .1 .1 .1)
+          (new-small (cell i 1) (cell i 4) (small .places i h 4 (omega arith) (omega arith)))
+          (new-small (cell i 1) (cell i 5) (small .places i h 5 (omega arith) (omega arith)))
+          (new-small (cell i 1) (cell i 6) (small .places i h 6 (omega arith) (omega arith)))
+          (new-small (cell i 1) (cell i 7) (small .places i h 7 (omega arith) (omega arith)))
+          ∙ go (ltb 2 (cell i 1)) refl
+        where
+          p : (cell i 1 < 256)
+              × (((refOf (length (c .rows)) (cell i 2) .mark < 256) × (refOf (length (c .rows)) (cell i 2) .row < 65536))
+              × ((refOf (length (c .rows)) (cell i 3) .mark < 256) × (refOf (length (c .rows)) (cell i 3) .row < 65536)))
+          p = step-parts i h
+
+          made : List ℕ → Step
+          made l =
+              record {
+                owner = ownerAt from owner i;
+                kind = cell i 1;
+                left = refOf (length (c .rows)) (cell i 2);
+                right = refOf (length (c .rows)) (cell i 3);
+                numbers = l;
+              }
+
+          go : (b : Bool) → ltb 2 (cell i 1) ≡ b
+              → made (newIn news (cell i 1) (cell i 4) ∷ newIn news (cell i 1) (cell i 5) ∷ newIn news (cell i 1) (cell i 6) ∷ newIn news (cell i 1) (cell i 7) ∷ [])
+              ≡ renamed (newOf news) (stepOn i)
+          go true e =
+              let l : 2 < cell i 1 = ltb-true 2 (cell i 1) e in
+              ap made
+              (rw (new-cites (cell i 1) (cell i 4) l, new-cites (cell i 1) (cell i 5) l, new-cites (cell i 1) (cell i 6) l, new-cites (cell i 1) (cell i 7) l)
+              (sym (renamed-cites (newOf news) (stepOn i) l)))
+          go false e =
+              let l : cell i 1 ≤ 2 = ltb-false 2 (cell i 1) e in
+              ap made
+              (rw (new-plain (cell i 1) (cell i 4) l, new-plain (cell i 1) (cell i 5) l, new-plain (cell i 1) (cell i 6) l, new-plain (cell i 1) (cell i 7) l)
+              (sym (renamed-plain (newOf news) (stepOn i) l)))
+
+    written-steps : (o : Out) → ((r : ℕ) → newOf (o .news) r < 4294967296) → (i : ℕ) → i < n → o .next < length (o .firsts) → o .next < length (o .seconds)
+        → o .next < length (o .thirds)
+        → stepsIn (written (length (c .rows)) from owner cells i o) ≡ stepsIn o ++ (renamed (newOf (o .news)) (stepAt steps i) ∷ [])
+    unfolding stepsIn written
+    written-steps o fits i h r₁ r₂ r₃ =
+        let z : o .next + 1 ≡ suc (o .next) = omega arith in
+        let v₁ : ℕ = wordIn (length (c .rows)) (ownerAt from owner i) (cell i 1) (cell i 2) (cell i 3) in
+        let v₂ : ℕ = numbersWord (o .news) (cell i 1) (cell i 4) (cell i 5) in
+        let v₃ : ℕ = numbersWord (o .news) (cell i 1) (cell i 6) (cell i 7) in
+        rw (z, take-suc-set (o .firsts) (o .next) v₁ r₁, take-suc-set (o .seconds) (o .next) v₂ r₂, take-suc-set (o .thirds) (o .next) v₃ r₃)
+        (stepsFrom-snoc (take (o .next) (o .firsts)) (take (o .next) (o .seconds)) (take (o .next) (o .thirds)) v₁ v₂ v₃
+        (omega (arith, length-take (o .next) (o .firsts), length-take (o .next) (o .seconds)))
+        (omega (arith, length-take (o .next) (o .seconds), length-take (o .next) (o .thirds)))
+        ∙ ap (λ (s : Step). stepsIn o ++ (s ∷ []))
+        (words-step (o .news) fits i h ∙ ap (renamed (newOf (o .news))) (sym (draft-at (length (c .rows)) from owner cells i h))))
+
+    -- ---- all steps
+
+    module _ (fits : n ≤ 16384) (marks : List ℕ) (closed : Closed c k a steps (kept marks)) (o₀ : Out) where
+      -- after the first m steps
+      pub record Emitting (m : ℕ) (o : Out) : Type 0 where
+        pub sends : Sending c k a (draft (length (c .rows)) from owner cells) (kept marks) (o₀ .news) (stepsIn o₀) m (o .news) (stepsIn o)
+        pub counted : length (stepsIn o) ≡ o .next
+        pub rest₁ : drop (o .next) (o .firsts) ≡ drop (o .next) (o₀ .firsts)
+        pub rest₂ : drop (o .next) (o .seconds) ≡ drop (o .next) (o₀ .seconds)
+        pub rest₃ : drop (o .next) (o .thirds) ≡ drop (o .next) (o₀ .thirds)
+        pub long₁ : length (o .firsts) ≡ length (o₀ .firsts)
+        pub long₂ : length (o .seconds) ≡ length (o₀ .seconds)
+        pub long₃ : length (o .thirds) ≡ length (o₀ .thirds)
+
+      -- there is room for all of them
+      pub record Room : Type 0 where
+        pub counted : length (stepsIn o₀) ≡ o₀ .next
+        pub few : o₀ .next + n < 4294967296
+        pub first : o₀ .next + n ≤ length (o₀ .firsts)
+        pub second : o₀ .next + n ≤ length (o₀ .seconds)
+        pub third : o₀ .next + n ≤ length (o₀ .thirds)
+
+      module _ (room : Room) where
+        new-fits : (m : ℕ) → m < n → (o : Out) → Emitting m o → (r : ℕ) → newOf (o .news) r < 4294967296
+        new-fits m h o w zero = omega (arith, new-none (o .news))
+        new-fits m h o w (suc p) = go (getD (o .news) (suc p) 0) refl
+          where
+            go : (v : ℕ) → getD (o .news) (suc p) 0 ≡ v → newOf (o .news) (suc p) < 4294967296
+            go zero e = omega (arith, new-at (o .news) p, e)
+            go (suc q) e = omega (arith, new-at (o .news) p, e, w .sends .shown p q e .inside, w .sends .most, room .counted, room .few)
+
+        emit-written : (m : ℕ) → m < n → (o : Out) → Emitting m o → kept marks (suc m) ≡ true → getD (o .news) (suc m) 0 ≡ 0
+            → Emitting (suc m) (written (length (c .rows)) from owner cells m o)
+        unfolding written
+        emit-written m h o w e z =
+            record {
+              sends =
+                  subst₂ (Sending c k a steps (kept marks) (o₀ .news) (stepsIn o₀) (suc m)) named (sym more)
+                  (sending-send c k a steps (kept marks) (o₀ .news) (stepsIn o₀) closed (omega (arith, all)) m (omega (arith, all)) (o .news) (stepsIn o) (w .sends) e z
+                  (follow m (omega (arith, all))));
+              counted = ap length more ∙ length-snoc (stepsIn o) (renamed (newOf (o .news)) (stepAt steps m)) ∙ omega (arith, w .counted);
+              rest₁ = drop-later (o .firsts) (o₀ .firsts) (o .next) v₁ (w .rest₁);
+              rest₂ = drop-later (o .seconds) (o₀ .seconds) (o .next) v₂ (w .rest₂);
+              rest₃ = drop-later (o .thirds) (o₀ .thirds) (o .next) v₃ (w .rest₃);
+              long₁ = length-set (o .firsts) (o .next) v₁ ∙ w .long₁;
+              long₂ = length-set (o .seconds) (o .next) v₂ ∙ w .long₂;
+              long₃ = length-set (o .thirds) (o .next) v₃ ∙ w .long₃;
+            }
+          where
+            v₁ : ℕ
+            v₁ = wordIn (length (c .rows)) (ownerAt from owner m) (cell m 1) (cell m 2) (cell m 3)
+
+            v₂ : ℕ
+            v₂ = numbersWord (o .news) (cell m 1) (cell m 4) (cell m 5)
+
+            v₃ : ℕ
+            v₃ = numbersWord (o .news) (cell m 1) (cell m 6) (cell m 7)
+
+            all : length steps ≡ n
+            all = length-draft (length (c .rows)) from owner cells
+
+            inside : o .next < o₀ .next + n
+            inside = omega (arith, w .sends .most, w .counted, room .counted)
+
+            more : stepsIn (written (length (c .rows)) from owner cells m o) ≡ stepsIn o ++ (renamed (newOf (o .news)) (stepAt steps m) ∷ [])
+            more =
+                written-steps o (new-fits m h o w) m h (omega (arith, inside, w .long₁, room .first)) (omega (arith, inside, w .long₂, room .second))
+                (omega (arith, inside, w .long₃, room .third))
+
+            named : set (o .news) (suc m) (suc (length (stepsIn o))) ≡ set (o .news) (m + 1) (o .next + 1)
+            named = ap₂ (set (o .news)) (omega arith) (omega (arith, w .counted))
+
+        emit-kept : (m : ℕ) → (o : Out) → Emitting m o → (kept marks (suc m) ≡ true → getD (o .news) (suc m) 0 ≡ 0 → ⊥) → Emitting (suc m) o
+        emit-kept m o w skip =
+            record {
+              sends = sending-skip c k a steps (kept marks) (o₀ .news) (stepsIn o₀) m (o .news) (stepsIn o) (w .sends) skip;
+              counted = w .counted;
+              rest₁ = w .rest₁;
+              rest₂ = w .rest₂;
+              rest₃ = w .rest₃;
+              long₁ = w .long₁;
+              long₂ = w .long₂;
+              long₃ = w .long₃;
+            }
+
+        emit-next : (m : ℕ) → m < n → (o : Out) → Emitting m o → Emitting (suc m) (sendOne (length (c .rows)) from owner cells marks m o)
+        unfolding sendOne
+        emit-next m h o w = go (kept marks (m + 1)) refl (eqb (getD (o .news) (m + 1) 0) 0) refl
+          where
+            next : suc m ≡ m + 1
+            next = omega arith
+
+            go : (b : Bool) → kept marks (m + 1) ≡ b → (d : Bool) → eqb (getD (o .news) (m + 1) 0) 0 ≡ d
+                → Emitting (suc m) (sendOne (length (c .rows)) from owner cells marks m o)
+            go true e true f =
+                rw (e, sendOne, f)
+                (emit-written m h o w (ap (kept marks) next ∙ e) (ap (λ (i : ℕ). getD (o .news) i 0) next ∙ eqb-true (getD (o .news) (m + 1) 0) 0 f))
+            go true e false f =
+                rw (e, sendOne, f)
+                (emit-kept m o w (λ s z. eqb-false (getD (o .news) (m + 1) 0) 0 f (ap (λ (i : ℕ). getD (o .news) i 0) (sym next) ∙ z)))
+            go false e d f =
+                rw (e, sendOne)
+                (emit-kept m o w (λ s z. let y : true ≡ false = sym s ∙ ap (kept marks) next ∙ e in let x : _≡_ {A = ℕ} 0 1 = cc in omega arith))
+
+        emit-to : (m : ℕ) → m ≤ n → Emitting 0 o₀ → Emitting m (upto m (sendOne (length (c .rows)) from owner cells marks) o₀)
+        unfolding upto
+        emit-to zero h w = w
+        emit-to (suc m) h w =
+            emit-next m (omega arith) (upto m (sendOne (length (c .rows)) from owner cells marks) o₀) (emit-to m (omega arith) w)
+
+        pub emitted-all : Sending c k a steps (kept marks) (o₀ .news) (stepsIn o₀) 0 (o₀ .news) (stepsIn o₀) → Emitting n (sent (length (c .rows)) from owner cells marks n o₀)
+        unfolding sent
+        emitted-all s =
+            emit-to n (omega arith)
+            (record { sends = s; counted = room .counted; rest₁ = refl; rest₂ = refl; rest₃ = refl; long₁ = refl; long₂ = refl; long₃ = refl })

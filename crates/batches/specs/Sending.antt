@@ -1,0 +1,92 @@
+-- Steps of a column, numbered anew and written as words behind those written before.
+--     newOf, newIn         a number's new one, 0 where it has none; what a step's number becomes
+--     wordOf, twoIn        a step's owner, kind and sides in a word; two numbers in a word
+--     Out, stepsIn         new numbers, and three columns of words, of which the first ones are written; the steps that these hold
+--     forgotten            shared steps keep their new numbers, and the others have none
+--     written              one step more
+--     sendOne, sent        a step that is marked and has no new number; so many of a column
+--     batch                what one step of a column rests on
+-- Assumes nothing.
+use mathlib.Core.Bool.{true, false}
+use mathlib.Core.List.{List}
+use Prim.Native.Nat.{ℕ, _+_, _*_}
+use lib.Dec.{eqb, ltb}
+use lib.ListN.{getD, set, take}
+use Rattle.meaning.specs.Grounds.{Step}
+use Rattle.meaning.specs.GroundColumns.{stepsFrom}
+use Rattle.grounding.specs.Draft.{refOf, countIn, ownerAt}
+use Rattle.grounding.specs.Classes.{upto}
+use Rattle.batches.specs.Marking.{kept, markedFor}
+
+-- ---- words of 64 bits
+
+-- step 0 is none
+unfoldable pub newOf : List ℕ → ℕ → ℕ
+newOf news r = elim (eqb r 0) [ true ↦ 0 | false ↦ getD news r 0 ]
+
+-- kinds 1 and 2 cite no step
+unfoldable pub newIn : List ℕ → ℕ → ℕ → ℕ
+newIn news kind r = elim (ltb 2 kind) [ true ↦ newOf news r | false ↦ r ]
+
+abbrev pub wordOf : ℕ → ℕ → ℕ → ℕ → ℕ → ℕ → ℕ
+wordOf owner kind mark row mark′ row′ =
+    owner * 72057594037927936 + kind * 281474976710656 + mark * 1099511627776 + row * 16777216 + mark′ * 65536 + row′
+
+abbrev pub twoIn : ℕ → ℕ → ℕ
+twoIn a b = a * 4294967296 + b
+
+abbrev pub wordIn : ℕ → ℕ → ℕ → ℕ → ℕ → ℕ
+wordIn rows owner kind x y = wordOf owner kind (refOf rows x .mark) (refOf rows x .row) (refOf rows y .mark) (refOf rows y .row)
+
+abbrev pub numbersWord : List ℕ → ℕ → ℕ → ℕ → ℕ
+numbersWord news kind a b = twoIn (newIn news kind a) (newIn news kind b)
+
+-- ---- one batch
+
+-- a place for each number of a column, and words, of which so many are written
+pub record Out : Type 0 where
+  pub news : List ℕ
+  pub next : ℕ
+  pub firsts : List ℕ
+  pub seconds : List ℕ
+  pub thirds : List ℕ
+
+unfoldable pub stepsIn : Out → List Step
+stepsIn o = stepsFrom (take (o .next) (o .firsts)) (take (o .next) (o .seconds)) (take (o .next) (o .thirds))
+
+-- the number of step i, counted from 0, where it is not shared
+unfoldable pub forgetOne : ℕ → ℕ → List ℕ → List ℕ
+forgetOne from i news = elim (ltb i from) [ true ↦ news | false ↦ set news (i + 1) 0 ]
+
+unfoldable pub forgotten : ℕ → List ℕ → List ℕ
+forgotten from news = upto 16384 (forgetOne from) news
+
+-- step i of a column
+unfoldable pub written : ℕ → ℕ → ℕ → List ℕ → ℕ → Out → Out
+written rows from owner cells i o =
+    let kind : ℕ = getD cells (i * 7 + 1) 0 in
+    record {
+      news = set (o .news) (i + 1) (o .next + 1);
+      next = o .next + 1;
+      firsts = set (o .firsts) (o .next) (wordIn rows (ownerAt from owner i) kind (getD cells (i * 7 + 2) 0) (getD cells (i * 7 + 3) 0));
+      seconds = set (o .seconds) (o .next) (numbersWord (o .news) kind (getD cells (i * 7 + 4) 0) (getD cells (i * 7 + 5) 0));
+      thirds = set (o .thirds) (o .next) (numbersWord (o .news) kind (getD cells (i * 7 + 6) 0) (getD cells (i * 7 + 7) 0));
+    }
+
+unfoldable pub sendOne : ℕ → ℕ → ℕ → List ℕ → List ℕ → ℕ → Out → Out
+sendOne rows from owner cells marks i o =
+    elim (kept marks (i + 1)) [
+      | true ↦ elim (eqb (getD (o .news) (i + 1) 0) 0) [ true ↦ written rows from owner cells i o | false ↦ o ]
+      | false ↦ o
+    ]
+
+-- the first n
+unfoldable pub sent : ℕ → ℕ → ℕ → List ℕ → List ℕ → ℕ → Out → Out
+sent rows from owner cells marks n o = upto n (sendOne rows from owner cells marks) o
+
+unfoldable pub resent : ℕ → Out → Out
+resent from o = record { news = forgotten from (o .news); next = o .next; firsts = o .firsts; seconds = o .seconds; thirds = o .thirds }
+
+-- the first steps of a column are shared, and the others an owner's; step s, and what it rests on
+unfoldable pub batch : ℕ → ℕ → ℕ → List ℕ → ℕ → Out → Out
+batch rows from owner cells s o = sent rows from owner cells (markedFor cells s) (countIn cells) (resent from o)

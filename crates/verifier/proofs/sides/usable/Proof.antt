@@ -1,0 +1,14 @@
+-- `verifier::sides::usable` meets its contract. A step is shared, or of the owner that stands in its word.
+-- Assumes nothing.
+use Rattle.verifier.proofs.Numbers.{mine}
+use Rattle.verifier.proofs.sides.usable.Statement.{statement}
+use Rattle.verifier.proofs.sides.usable.Tie as tie
+
+returns : tie.Need-returns
+returns c = search mine
+
+returns-2 : tie.Need-returns-2
+returns-2 c = search mine
+
+pub usable-spec : {M : Type 1} → statement M
+usable-spec = tie.close (tie.spec returns returns-2)
