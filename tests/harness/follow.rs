@@ -4,7 +4,7 @@ use crate::context::{constant, context, SYMBOLS};
 use crate::random::Random;
 use reference::breach::{assignments, Terms};
 use reference::closing::{alike, close, differ, first_clash, merge};
-use reference::text::{Literal, Pair, Pattern, Row, Text};
+use reference::text::{Literal, Pair, Pattern, Row, Text, MOST_DIFFERENCES, MOST_EQUATIONS};
 
 /// Constants from here on are in no other context.
 const NEW_CONSTANTS: usize = 0x200;
@@ -111,6 +111,12 @@ pub fn together(random: &mut Random) -> Text {
     let left = new_row(random, &mut text, Row { symbol, arguments: arguments(|pair| pair.0) });
     let right = new_row(random, &mut text, Row { symbol, arguments: arguments(|pair| pair.1) });
     part(random, &mut text, (left, right));
+    add_literals_of_both(random, &mut text);
+    text
+}
+
+/// Constants 0 and 1 are unequal, and so are 2 and 3; in the place of 0, or of 0 and 2, there may be a variable.
+fn add_literals_of_both(random: &mut Random, text: &mut Text) {
     let variables = random.below(3);
     for row in [0, 2, 1, 3] {
         let variable = row / 2;
@@ -122,7 +128,6 @@ pub fn together(random: &mut Random) -> Text {
     }
     let mut literal = |equal: bool, sides: Pair| Literal { equal, sides: turned_at_times(random, sides) };
     text.literals = vec![literal(false, (0, 2)), literal(false, (1, 3)), literal(true, (0, 0))];
-    text
 }
 
 /// Unequal literals between a term and terms over it, most of which lie outside the table.
@@ -148,15 +153,15 @@ pub fn has_outside(text: &Text) -> bool {
     unequal.any(|literal| assignments(text).any(|assignment| terms.sides(text, literal, &assignment).is_none()))
 }
 
-/// How many statements of each sort there are, filled up with such as change nothing.
+/// Fills the equations, the differences or both up to their limit, with such as change nothing.
 pub fn fill_statements(random: &mut Random, text: &mut Text) {
     let which = random.below(3);
-    while which < 2 && text.equations.len() < 255 {
+    while which < 2 && text.equations.len() < MOST_EQUATIONS {
         let row = random.below(text.rows.len());
-        let again = random.pick(&text.equations.iter().copied().chain([(row, row)]).collect::<Vec<Pair>>()).to_owned();
+        let again = if text.equations.is_empty() || random.one_in(2) { (row, row) } else { *random.pick(&text.equations) };
         text.equations.push(turned_at_times(random, again));
     }
-    while which > 0 && !text.differences.is_empty() && text.differences.len() < 255 {
+    while which > 0 && !text.differences.is_empty() && text.differences.len() < MOST_DIFFERENCES {
         let again = *random.pick(&text.differences);
         text.differences.push(turned_at_times(random, again));
     }
