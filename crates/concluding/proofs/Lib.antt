@@ -1,3 +1,2 @@
 -- The root of the laws.
 pub mod Sayings
-pub mod Literals

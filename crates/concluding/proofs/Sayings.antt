@@ -1,8 +1,6 @@
 -- What shows a literal, as the code writes it.
 --     Placing          a loop over stated differences: the first so many have two labels
 --     says-resumed     what is said from a column and a table is said from the closed classes again
---     said-difference  a difference's number is at most one more than there are differences
---     said-second, said-orientation   a second step and an orientation are 0
 --     placing, saying  what the functions of `concluding` leave to show
 -- Assumes nothing.
 use mathlib.Core.Bool.{Bool, true, false, not}
@@ -12,16 +10,15 @@ use Prim.Native.Nat.{ℕ, suc, _+_, _-_, _≤_, _<_}
 use native.Mathlib.Numerals.{add-one}
 use native.Mathlib.Omega.{arith}
 use lib.Dec.{eqb, ltb}
-use lib.ListN.{length, getD, set, List·getD-eq-default}
+use lib.ListN.{getD, set, List·getD-eq-default}
 use borrow.Author.Needs.{needs}
 use borrow.Author.Tests.{lt-ltb, le-ltb, eq-eqb, ne-eqb, ltb-true, ltb-false}
 use Rattle.meaning.specs.Context.{Row, leftAt, rightAt}
-use Rattle.meaning.specs.Rules.{Literal, equal, unequal}
+use Rattle.meaning.specs.Rules.{Literal}
 use Rattle.meaning.specs.Values.{numberAt}
 use Rattle.meaning.specs.Columns.{literalOf}
 use Rattle.meaning.specs.Checking.{firstFalse}
 use Rattle.meaning.specs.GroundColumns.{pairsFrom}
-use Rattle.meaning.proofs.Verdicts.{false-ends}
 use Rattle.grounding.specs.Draft.{countIn, Wrote}
 use Rattle.grounding.specs.Classes.{State, Left, same}
 use Rattle.grounding.specs.Rounds.{oneLabel}
@@ -159,26 +156,6 @@ module _ (n : ℕ) (ks : List Row) (ns : List ℕ) (rows : ℕ) (diffs : List (�
       → Says after first difference (said n ks ns rows diffs l (resumed closed cells))
   unfolding resumed
   says-resumed l closed cells e f w = rw (sym e, sym f) w
-
-  same-few : (cells table : List ℕ) → saidSame cells table diffs .difference ≤ length diffs + 1
-  unfolding saidSame placeSame
-  same-few cells table = omega (arith, false-ends (parted table diffs) (length diffs) .most)
-
-  pub said-difference : (l : Literal) (state : State) → said n ks ns rows diffs l state .difference ≤ length diffs + 1
-  unfolding said saidEqual saidDiffer
-  said-difference (equal p q) state = omega arith
-  said-difference (unequal p q) state =
-      same-few (widened n ks (numberAt ns (rows + p)) (numberAt ns (rows + q)) state .cells) (widened n ks (numberAt ns (rows + p)) (numberAt ns (rows + q)) state .table)
-
-  pub said-second : (l : Literal) (state : State) → said n ks ns rows diffs l state .second ≡ 0
-  unfolding said saidEqual saidDiffer saidSame
-  said-second (equal p q) state = refl
-  said-second (unequal p q) state = refl
-
-  pub said-orientation : (l : Literal) (state : State) → said n ks ns rows diffs l state .orientation ≡ 0
-  unfolding said saidEqual saidDiffer saidSame
-  said-orientation (equal p q) state = refl
-  said-orientation (unequal p q) state = refl
 
 pub ruleset placing = (needs, placing-start, placing-next, placing-found, placing-done, side-in, side-past)
 

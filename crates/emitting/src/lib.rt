@@ -1,5 +1,5 @@
 // What one step of a column rests on, numbered anew and written as words behind those written before.
-mod words;
+pub mod words;
 
 use numbering::numbers::wide;
 use sweeping::mark;

@@ -24,7 +24,7 @@ fn long32(x: u32) -> u64
 }
 
 // A step's new number; step 0 is none.
-fn new_of(news: &[u32; 16385], r: u16) -> u32
+pub fn new_of(news: &[u32; 16385], r: u16) -> u32
     ensures { λ q. ⌜ q ≡ newOf (now (news .entry)) r ⌝ }
 {
     let i = wide(r);

@@ -10,7 +10,7 @@ use mathlib.Core.Path.{_≡_, refl, sym, ap, subst, _∙_}
 use Prim.Native.Nat.{ℕ, _-_, _≤_, _<_}
 use native.Mathlib.Omega.{arith}
 use borrow.Author.Needs.{needs}
-use lib.ListN.{length, replicate}
+use lib.ListN.{length}
 use Rattle.meaning.specs.Rules.{found, nothing}
 use Rattle.meaning.specs.Text as M
 use Rattle.meaning.specs.Text.{narrow}
@@ -113,11 +113,7 @@ pub outcome-refused : (o : Outcome) (x : Refusal) (places : List ℕ) (l : Line)
     → Prints (lineBy o places) (l .bytes) (l .len)
 outcome-refused o x places l e p = rw e p
 
-pub nothing-concluded : record { firsts = replicate 16 0; seconds = replicate 16 0; differences = replicate 16 0; orientations = replicate 16 0 } ≡ noConclusions
-unfolding noConclusions
-nothing-concluded = refl
-
-pub ruleset mine = (needs, opened-long, opened-written, outcome-breach, outcome-clear, outcome-refused, nothing-concluded)
+pub ruleset mine = (needs, opened-long, opened-written, outcome-breach, outcome-clear, outcome-refused)
 
 -- ---- what is printed
 

@@ -9,7 +9,6 @@ use verifier::Conclusions;
 ghost use mathlib.Core.Path.{_≡_};
 ghost use Rattle.meaning.specs.Replies.{refused, refusal, printed};
 ghost use Rattle.normaliser.specs.Prints.{Prints};
-ghost use Rattle.writer.specs.Claims.{noConclusions};
 ghost use Rattle.framing.specs.Opening.{lineBy, Opens};
 
 // The most bytes that a program takes.
@@ -51,24 +50,13 @@ fn reply_line(outcome: Outcome, places: [u16; 4]) -> Line
     }
 }
 
-fn no_conclusions() -> Conclusions
-    ensures { λ r. ⌜ r ≡ noConclusions ⌝ }
-{
-    Conclusions {
-        firsts: [0; 16],
-        seconds: [0; 16],
-        differences: [0; 16],
-        orientations: [0; 16],
-    }
-}
-
 // Refusal 11 first, with nothing written; else the writer's reply and what it wrote.
 pub fn open(input: &[u8], firsts: &mut [u64], seconds: &mut [u64], thirds: &mut [u64]) -> Opened
     ensures opens { λ o. ⌜ Opens (now (input .entry)) (now (firsts .entry)) (now (seconds .entry)) (now (thirds .entry)) o (now (firsts .exit)) (now (seconds .exit)) (now (thirds .exit)) ⌝ }
 {
     if MOST_INPUT < input.len() {
         let line = over_line();
-        let conclusions = no_conclusions();
+        let conclusions = writer::no_conclusions();
         return Opened {
             line,
             steps: 0,

@@ -3,17 +3,15 @@
 --     Concluded              steps, and a conclusion of a literal by them
 --     equal-made             entries with one label
 --     differ-made            a stated difference with one label
---     stored-before, stored-new   conclusions in a column
 -- Assumes nothing.
 use mathlib.Core.Bool.{Bool, true, false, not}
 use mathlib.Core.List.{List}
 use mathlib.Core.Path.{_≡_, refl, ap, _∙_, subst, subst₂}
-use Prim.Native.Nat.{ℕ, suc, _+_, _*_, _≤_, _<_}
+use Prim.Native.Nat.{ℕ, suc, _+_, _≤_, _<_}
 use native.Mathlib.Omega.{arith}
 use lib.Dec.{eqb, ltb}
 use borrow.Author.Tests.{eqb-true, eq-eqb, ltb-true, ltb-false, not-false}
-use lib.ListN.{length, getD, set, length-set}
-use lib.Seq.{getD-set-same, getD-set-other}
+use lib.ListN.{length}
 use Rattle.meaning.specs.Context.{termAt, leftAt, rightAt, Context, differences}
 use Rattle.meaning.specs.Rules.{Literal, equal, unequal, Clause}
 use Rattle.meaning.specs.Values.{numberAt}
@@ -25,7 +23,7 @@ use Rattle.meaning.proofs.Verdicts.{false-ends}
 use Rattle.grounding.specs.Draft.{countIn, Written}
 use Rattle.grounding.specs.Classes.{labelIn, State, same}
 use Rattle.grounding.specs.Rounds.{oneLabel}
-use Rattle.grounding.specs.Concluding.{parted, placeSame, Said, saidEqual, saidSame, endStored, endAt}
+use Rattle.grounding.specs.Concluding.{parted, placeSame, Said, saidEqual, saidSame}
 use Rattle.grounding.proofs.Builds.{Run, all, term, steps, Grown, Made, number-term, number-inside}
 use Rattle.grounding.proofs.Joins.{Sound, same-made}
 use Rattle.grounding.proofs.Complete.{side-term, side-inside}
@@ -173,50 +171,3 @@ module _ (c : Context) (k : Clause) (a : List ℕ) (ns : List ℕ) (ready : Read
 
           m : Made c k a ns ready run (state .cells) u 2 (left at) (right at)
           m = same-made c k a ns ready run state w (left at) (right at) (omega (arith, b .leftIn)) (b .leftIn) (b .rightIn) (b .leftOwn) (found .1) room
-
--- ---- conclusions in a column
-
-module _ (ends : List ℕ) (j p q r s : ℕ) (long : length ends ≡ 64) (h : j < 16) where
-  abbrev stored : List ℕ
-  stored = set (set (set (set ends (j * 4) p) (j * 4 + 1) q) (j * 4 + 2) r) (j * 4 + 3) s
-
-  pub stored-long : length (endStored ends j p q r s) ≡ 64
-  unfolding endStored
-  stored-long = simp length-set long
-
-  stored-other : (i : ℕ) → (i < j * 4) → getD stored i 0 ≡ getD ends i 0
-  stored-other i l =
-      getD-set-other (set (set (set ends (j * 4) p) (j * 4 + 1) q) (j * 4 + 2) r) (j * 4 + 3) i s 0 (λ e. omega arith)
-      ∙ getD-set-other (set (set ends (j * 4) p) (j * 4 + 1) q) (j * 4 + 2) i r 0 (λ e. omega arith)
-      ∙ getD-set-other (set ends (j * 4) p) (j * 4 + 1) i q 0 (λ e. omega arith)
-      ∙ getD-set-other ends (j * 4) i p 0 (λ e. omega arith)
-
-  pub stored-before : (i : ℕ) → i < j → endAt (endStored ends j p q r s) i ≡ endAt ends i
-  unfolding endAt endStored
-  stored-before i l =
-      rw (stored-other (i * 4) (omega arith), stored-other (i * 4 + 1) (omega arith), stored-other (i * 4 + 2) (omega arith), stored-other (i * 4 + 3) (omega arith))
-
-  pub stored-new : endAt (endStored ends j p q r s) j ≡ record { literal = suc j; first = p; second = q; difference = r; orientation = s }
-  unfolding endAt endStored
-  stored-new = rw (first, second, third, fourth)
-    where
-      first : getD stored (j * 4) 0 ≡ p
-      first =
-          getD-set-other (set (set (set ends (j * 4) p) (j * 4 + 1) q) (j * 4 + 2) r) (j * 4 + 3) (j * 4) s 0 (λ e. omega arith)
-          ∙ getD-set-other (set (set ends (j * 4) p) (j * 4 + 1) q) (j * 4 + 2) (j * 4) r 0 (λ e. omega arith)
-          ∙ getD-set-other (set ends (j * 4) p) (j * 4 + 1) (j * 4) q 0 (λ e. omega arith)
-          ∙ getD-set-same ends (j * 4) p 0 (omega arith)
-
-      second : getD stored (j * 4 + 1) 0 ≡ q
-      second =
-          getD-set-other (set (set (set ends (j * 4) p) (j * 4 + 1) q) (j * 4 + 2) r) (j * 4 + 3) (j * 4 + 1) s 0 (λ e. omega arith)
-          ∙ getD-set-other (set (set ends (j * 4) p) (j * 4 + 1) q) (j * 4 + 2) (j * 4 + 1) r 0 (λ e. omega arith)
-          ∙ getD-set-same (set ends (j * 4) p) (j * 4 + 1) q 0 (simp length-set (omega arith))
-
-      third : getD stored (j * 4 + 2) 0 ≡ r
-      third =
-          getD-set-other (set (set (set ends (j * 4) p) (j * 4 + 1) q) (j * 4 + 2) r) (j * 4 + 3) (j * 4 + 2) s 0 (λ e. omega arith)
-          ∙ getD-set-same (set (set ends (j * 4) p) (j * 4 + 1) q) (j * 4 + 2) r 0 (simp length-set (omega arith))
-
-      fourth : getD stored (j * 4 + 3) 0 ≡ s
-      fourth = getD-set-same (set (set (set ends (j * 4) p) (j * 4 + 1) q) (j * 4 + 2) r) (j * 4 + 3) s 0 (simp length-set (omega arith))

@@ -7,18 +7,16 @@
 --     said, saidBy        for a literal; by its kind and its two entries
 --     resumed             closed classes again, in a column that begins with their steps
 --     ownerOf             whose steps a literal's own are
---     endStored, endAt    conclusion j, counted from 0, in four places
 -- Assumes nothing.
 use mathlib.Core.Bool.{Bool, true, false, not}
 use mathlib.Core.List.{List}
 use mathlib.Core.Path.{_≡_}
-use Prim.Native.Nat.{ℕ, suc, _+_, _*_, _≤_}
+use Prim.Native.Nat.{ℕ, suc, _+_, _≤_}
 use lib.Dec.{eqb, ltb}
 use lib.ListN.{length, getD, set}
 use Rattle.meaning.specs.Context.{Row, leftAt, rightAt}
 use Rattle.meaning.specs.Rules.{Literal, equal, unequal}
 use Rattle.meaning.specs.Values.{numberAt}
-use Rattle.meaning.specs.Grounds.{Conclusion}
 use Rattle.meaning.specs.Checking.{firstFalse}
 use Rattle.meaning.specs.GroundColumns.{pairsFrom}
 use Rattle.grounding.specs.Draft.{countIn, Written}
@@ -81,17 +79,3 @@ resumed closed cells = record { cells = set cells 0 (countIn (closed .cells)); t
 unfoldable pub ownerOf : ℕ → Literal → ℕ
 ownerOf j (equal p q) = 0
 ownerOf j (unequal p q) = suc j
-
-unfoldable pub endStored : List ℕ → ℕ → ℕ → ℕ → ℕ → ℕ → List ℕ
-endStored ends j first second difference orientation =
-    set (set (set (set ends (j * 4) first) (j * 4 + 1) second) (j * 4 + 2) difference) (j * 4 + 3) orientation
-
-unfoldable pub endAt : List ℕ → ℕ → Conclusion
-endAt ends j =
-    record {
-      literal = suc j;
-      first = getD ends (j * 4) 0;
-      second = getD ends (j * 4 + 1) 0;
-      difference = getD ends (j * 4 + 2) 0;
-      orientation = getD ends (j * 4 + 3) 0;
-    }

@@ -4,18 +4,18 @@
 -- Assumes nothing.
 use mathlib.Core.List.{List, [], _∷_}
 use mathlib.Core.Path.{_≡_, refl, sym, ap, subst, subst₂, _∙_}
-use Prim.Native.Nat.{ℕ, zero, suc, _+_}
+use Prim.Native.Nat.{ℕ, _+_}
 use native.Mathlib.Omega.{arith}
 use native.Mathlib.Numerals.{add-one}
 use mir.Syntax.{w16}
 use mir.Val.{Fits}
 use borrow.Author.Needs.{needs}
-use lib.ListN.{length, getD, length-append}
+use lib.ListN.{length}
 use Rattle.meaning.specs.Context.{Context, differences}
 use Rattle.meaning.specs.Equality.{repAt, Promise}
 use Rattle.meaning.specs.Rules.{Clause}
 use Rattle.meaning.specs.ByTable.{clashOf}
-use Rattle.meaning.specs.Columns.{clauseFrom, literalOf, literalsFrom}
+use Rattle.meaning.specs.Columns.{clauseFrom, literalsFrom}
 use Rattle.meaning.specs.Text as M
 use Rattle.meaning.specs.Text.{narrow, Read, faulty, taken, read}
 use Rattle.meaning.specs.Grounds.{Verified}
@@ -35,6 +35,7 @@ use Rattle.closing.specs.declared.Contradiction.the-variants.{First, Clear}
 use Rattle.verifier.specs.Claims.{verdictOf}
 use Rattle.verifier.specs.declared.Answer.{Answer}
 use Rattle.verifier.specs.declared.Conclusions.{Conclusions}
+use Rattle.verifier.proofs.Owning.{length-literals}
 use Rattle.judging.specs.Judgements.{Judgement, judged, refused, Weighed, empty, clashes, weighs, Judges, faults, judges}
 use Rattle.judging.specs.Claims.{said, asked, ClosedIn, Asks, judgementOf, concludedIn, WeighsTo, JudgesTo}
 use Rattle.judging.specs.declared.Outcome.{Outcome}
@@ -42,12 +43,6 @@ use Rattle.judging.specs.declared.Outcome.the-variants as O
 use Rattle.judging.proofs.Holding.{read-said, read-asked, read-asks, closes-promise, clash-high, clash-said}
 
 -- ---- below the reader
-
-length-literals : (signs lefts rights : List ℕ) (m : ℕ) → length (literalsFrom signs lefts rights m) ≡ m
-unfolding literalsFrom
-length-literals signs lefts rights zero = refl
-length-literals signs lefts rights (suc m) =
-    omega (arith, length-append (literalsFrom signs lefts rights m) (literalOf (getD signs m 0) (getD lefts m 0) (getD rights m 0) ∷ []), length-literals signs lefts rights m)
 
 module _ (c : ContextColumns) (k : ClauseColumns) (asks : Asks c k) (a firsts seconds thirds : List ℕ) (d : Conclusions) where
   pub weigh-empty : k .literals ≡ 0 → WeighsTo c k a firsts seconds thirds d (O.Refused (record { number = 8; line = 0; offset = 0 }))

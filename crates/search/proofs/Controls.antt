@@ -4,8 +4,9 @@
 --     byRow, no-by-row       values numbered by row, where an equal row is looked for among the rows before it: x, y, f(y), f(x), f(x) over the row a
 --     last, no-last          the rows tried from the last to the first: x = x over the rows a, b
 --     stated, no-stated      a literal x unequal y that asks of the stated differences alone: x unequal a where f(a) and f(b) differ
+--     oneWay, no-one-way     a literal x unequal y read in one orientation alone, the lesser number first: the same x unequal a, where b differs from a
 -- Assumes nothing.
-use mathlib.Core.Bool.{Bool, true, false, _||_}
+use mathlib.Core.Bool.{Bool, true, false, _||_, _&&_}
 use mathlib.Core.List.{List, [], _∷_, _++_}
 use mathlib.Core.Path.{_≡_, refl, sym, _∙_}
 use Prim.Native.Nat.{ℕ, _+_}
@@ -174,5 +175,23 @@ a-missed = refl
 pub no-stated : Right stated → ⊥
 no-stated r =
     let e : nothing ≡ found (1 ∷ []) = sym a-missed ∙ r images (0 ∷ 1 ∷ 2 ∷ 3 ∷ []) besideA ∙ a-found in
+    let z : _≡_ {A = ℕ} 0 1 = cc in
+    omega arith
+
+-- ---- one orientation alone
+
+unfoldable pub rising : (ℕ → ℕ → Bool) → ℕ → ℕ → Bool
+rising differs n m = ltb n m && differs n m
+
+unfoldable pub oneWay : Search
+oneWay c table k = firstBy (rising (widerBy c)) (c .rows) (repAt table) 65536 k
+
+a-one-way : oneWay images (0 ∷ 1 ∷ 2 ∷ 3 ∷ []) besideA ≡ nothing
+unfolding oneWay rising widerBy followsBy equationsOf differencesOf close rounds round rowsPass rowPass statedPass upto uniteIf agree unite count move total firstBy seek tryAll orElse lowest breaks allHoldBy holdsBy numbers stages number step numberOf met isOver held rowsAt levels levelsFrom levelOf highest sameList variables
+a-one-way = refl
+
+pub no-one-way : Right oneWay → ⊥
+no-one-way r =
+    let e : nothing ≡ found (1 ∷ []) = sym a-one-way ∙ r images (0 ∷ 1 ∷ 2 ∷ 3 ∷ []) besideA ∙ a-found in
     let z : _≡_ {A = ℕ} 0 1 = cc in
     omega arith

@@ -27,11 +27,11 @@ use Rattle.numbering.specs.declared.pairs.Pairs.{Pairs}
 use Rattle.numbering.specs.declared.table.Table.{Table}
 use Rattle.numbering.proofs.Keying.{length-rows}
 use Rattle.numbering.proofs.Extending.{length-patterns}
+use Rattle.verifier.proofs.Owning.{length-literals, literals-at}
 use Rattle.grounding.specs.Classes.{Left}
 use Rattle.grounding.specs.Rounds.{blank, started, stated, rounds}
 use Rattle.grounding.specs.Concluding.{said as sayOf, ownerOf}
 use Rattle.concluding.specs.Saying.{Says}
-use Rattle.concluding.proofs.Literals.{length-literals, literals-at}
 use Rattle.concluding.proofs.Sayings.{says-resumed}
 use Rattle.writer.specs.Drawing.{Broken, Tabled, Fits, Apart, settledOf, saidFor, saidOf, Shares}
 

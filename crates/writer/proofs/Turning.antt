@@ -31,7 +31,6 @@ use Rattle.batches.specs.Drawing.{Drawn, blankDrawn, drawSaid, drawOne, drawnTo
 use Rattle.batches.proofs.Words.{Small}
 use Rattle.concluding.specs.Saying.{Says}
 use Rattle.emitting.specs.Emitting.{Kinded, Holds, Batched}
-use Rattle.emitting.proofs.Wording.{new-none, new-at, new-past}
 use Rattle.writer.specs.Claims.{most, space, Shown}
 use Rattle.writer.specs.Drawing.{Tabled, Fits, settledOf, saidFor, saidOf, turnOf, turnsOf, Shares, Stands, Sayable, Turned, Drawable, Drew, endsWith, Draws}
 use Rattle.writer.proofs.Drawing.{rows-long, patterns-long, literals-long, tabled-fits, close-blank}
@@ -265,9 +264,6 @@ ends-made ends differences = refl
 
 pub ruleset mine = (
   needs,
-  new-none,
-  new-at,
-  new-past,
   turn-fits,
   turn-inside,
   turn-literals,

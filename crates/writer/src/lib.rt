@@ -2,6 +2,7 @@
 use concluding::Shown;
 use concluding::say;
 use emitting::batch;
+use emitting::words::new_of;
 use finder::Answer;
 use finder::Outcome;
 use finder::hunt;
@@ -27,7 +28,6 @@ ghost use Rattle.meaning.specs.Grounds.{literalAt};
 ghost use Rattle.grounding.specs.Classes.{Left};
 ghost use Rattle.grounding.specs.Rounds.{blank};
 ghost use Rattle.grounding.specs.Concluding.{ownerOf};
-ghost use Rattle.batches.specs.Sending.{newOf};
 ghost use Rattle.concluding.specs.Saying.{Says};
 ghost use Rattle.writer.specs.Claims.{most, space, noConclusions, Writes};
 ghost use Rattle.writer.specs.Drawing.{bareWith, refusedWith, Broken, Tabled, Fits, Apart, settledOf, saidFor, saidOf, Shares, Sayable, Turned, Drawable, Drew, endsWith, Draws, hitBy, Seekable, Sought};
@@ -50,7 +50,8 @@ enum Hit {
     Clear,
 }
 
-fn no_conclusions() -> Conclusions
+// Zeros in every place.
+pub fn no_conclusions() -> Conclusions
     ensures { λ r. ⌜ r ≡ noConclusions ⌝ }
 {
     Conclusions {
@@ -222,18 +223,6 @@ fn owner_of(k: ClauseColumns, j: usize) -> u8
     ensures { λ r. ⌜ (r ≡ ownerOf j (literalAt (asked k .literals) j)) × (r ≤ 16) ⌝ }
 {
     if k.signs[j] == 6 { 0 } else { (j + 1) as u8 }
-}
-
-// A step's new number; step 0 is none.
-fn new_of(news: &[u32; 16385], r: u16) -> u32
-    ensures { λ q. ⌜ q ≡ newOf (now (news .entry)) r ⌝ }
-{
-    let i = wide(r);
-    if i == 0 {
-        return 0;
-    }
-    let places: &[u32] = news;
-    if i < places.len() { places[i] } else { 0 }
 }
 
 // The turn of literal j, counted from 0: what its conclusion rests on, behind the steps that were written before, and its conclusion. How many are written.
