@@ -1,7 +1,7 @@
 //! The product's library and the efficient finder in one process.
 //!
 //! driver list           the names of the workloads
-//! driver count NAME     both sides once, between marks at which the counting emulator says its count
+//! driver count NAME     both sides once, and the library over records, between marks at which the counting emulator says its count
 //! driver tries NAME     the reply's line, and the tries of the narrowed and of the plain search
 //! driver show NAME      the text
 
@@ -11,6 +11,7 @@
 #[path = "../tests/boundary.rs"]
 mod boundary;
 mod ledger;
+mod tables;
 mod workloads;
 
 #[cfg(standin)]
@@ -21,6 +22,7 @@ use efficient::model::Model;
 use efficient::search::Search;
 use efficient::Found;
 use std::hint::black_box;
+use tables::Table;
 use workloads::{workloads, Workload};
 
 /// The plain search is given up after so many tries.
@@ -63,9 +65,17 @@ fn product_side(workload: &Workload, lent: &mut [u8]) -> (u64, Rows) {
     (reply, rows)
 }
 
+fn records_side(table: &Table) -> (u64, Rows) {
+    let table = black_box(table);
+    let mut rows = [0; 4];
+    (boundary::find_rows(&table.rows, &table.said, &table.rule, &mut rows), rows)
+}
+
 /// Between the first two marks is the cost of a mark. The efficient side allocates, and its first use is not counted.
 fn count(workload: &Workload) {
     let (mut left, mut right) = (vec![0; SPACE], vec![0; SPACE]);
+    let table =
+        (!workload.normalise).then(|| Table::of(&efficient::judge(&workload.text).expect("a text that is not refused").0));
     let efficient = efficient_side(workload, &mut left);
     mark(0);
     mark(1);
@@ -73,7 +83,10 @@ fn count(workload: &Workload) {
     mark(2);
     let product = product_side(workload, &mut right);
     mark(3);
-    println!("{}", if efficient == product && left == right { "same" } else { "DIFFERENT" });
+    let records = table.as_ref().map(records_side);
+    mark(4);
+    let same = efficient == product && left == right && records.map_or(true, |records| records == product);
+    println!("{}", if same { "same" } else { "DIFFERENT" });
 }
 
 fn tries(workload: &Workload) {

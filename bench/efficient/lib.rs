@@ -24,7 +24,13 @@ pub enum Found {
 }
 
 pub fn find(bytes: &[u8]) -> Found {
-    match judge(bytes) {
+    read(bytes).map_or_else(Found::Refused, find_in)
+}
+
+/// The reply to a text that has no faulty line and says this.
+#[inline(always)]
+pub fn find_in(text: Text) -> Found {
+    match ruled(text) {
         Err(why) => Found::Refused(why),
         Ok((text, representatives)) => {
             let model = Model::of(&text, representatives);
@@ -47,7 +53,11 @@ pub fn next(bytes: &[u8], after: [u16; 4]) -> Found {
 
 /// The representatives of a text that the finder does not refuse.
 pub fn judge(bytes: &[u8]) -> Result<(Text, Vec<u16>), Refusal> {
-    let text = read(bytes)?;
+    ruled(read(bytes)?)
+}
+
+#[inline(always)]
+fn ruled(text: Text) -> Result<(Text, Vec<u16>), Refusal> {
     if text.literals.is_empty() {
         return Err(refusal(8, 0));
     }

@@ -4,6 +4,7 @@ use crate::boundary::{self, words, Rows};
 use crate::listing;
 use crate::programs::Programs;
 use crate::random::Random;
+use crate::tables;
 use reference::breach::{first_breach, first_breach_anew};
 use reference::text::Refusal;
 use reference::{find, find_prints, normalise, normalise_prints, rule, Found};
@@ -49,6 +50,7 @@ pub fn differences(case: &Case, programs: &Programs) -> Vec<String> {
         said.extend(listing::program_difference(&case.text, programs));
     }
     if said.is_empty() {
+        said.extend(tables::differences(&case.text));
         said.extend(listing::differences(&case.text)); // a wrong finder may end the process on its own assignments
     }
     if case.anew {

@@ -27,8 +27,11 @@ mod kept;
 mod listing;
 mod programs;
 mod random;
+#[path = "../records.rs"]
+mod records;
 mod shrink;
 mod spoil;
+mod tables;
 mod tally;
 
 use compare::{case_of, differences, Case};

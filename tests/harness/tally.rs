@@ -4,6 +4,7 @@ use crate::follow::{clash_together, follows, has_outside};
 use crate::generate::{late, some_literal_holds};
 use crate::grounds::Tried;
 use crate::programs::Programs;
+use crate::tables::tables;
 use reference::text::{read, Refusal};
 use reference::{find, normalise, Found, INPUT_LIMIT};
 use std::collections::BTreeMap;
@@ -19,6 +20,9 @@ pub struct Tally {
     /// Texts that some reply refused by this number.
     refusals: [usize; 12],
     sizes: Sizes,
+    /// Texts with changed records that are not well-formed, and with others.
+    unfit: usize,
+    fit: usize,
     /// Inputs of `verify`, by the second byte of an 0B reply, and refusals.
     judged: [usize; 5],
     /// Breaches for which grounds were written, and the most steps.
@@ -71,6 +75,7 @@ impl Tally {
             self.refusals[number] += usize::from(refused);
         }
         self.measure(text);
+        self.add_tables(text);
     }
 
     pub fn add_grounds(&mut self, tried: &Tried) {
@@ -130,6 +135,13 @@ impl Tally {
         }
     }
 
+    fn add_tables(&mut self, text: &[u8]) {
+        let (fit, unfit): (Vec<bool>, Vec<bool>) =
+            tables(text).iter().skip(1).map(|table| table.well_formed()).partition(|fit| *fit);
+        self.fit += usize::from(!fit.is_empty());
+        self.unfit += usize::from(!unfit.is_empty());
+    }
+
     fn print_following(&self) {
         let following = &self.following;
         println!(
@@ -152,6 +164,7 @@ impl Tally {
             self.grounded, self.steps, self.owned_steps
         );
         self.print_following();
+        println!("{:8}  texts have changed records that are not well-formed, {} others", self.unfit, self.fit);
         println!("{:8}  breaches are late: variable 0 has a row of the last half", self.late_breaches);
         let sizes = &self.sizes;
         println!(
@@ -177,6 +190,8 @@ impl Tally {
         ask("are breaches of this kind among 255 equations or differences".into(), following.full, 200);
         ask("are none though two unequal literals would clash together".into(), following.together, 80);
         ask("have an unequal literal with an instance outside the table".into(), following.outside, 20);
+        ask("have changed records that are not well-formed".into(), self.unfit, 4);
+        ask("have other changed records".into(), self.fit, 4);
         for number in 1..=if programs.there() { 11 } else { 10 } {
             ask(format!("are refused by {}", number), self.refusals[number], 100);
         }

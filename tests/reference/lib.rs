@@ -21,21 +21,29 @@ pub enum Found {
 }
 
 pub fn find(bytes: &[u8]) -> Found {
-    match judge(bytes) {
+    read(bytes).map_or_else(Found::Refused, find_in)
+}
+
+/// What it replies to a text that has no faulty line and says this.
+pub fn find_in(text: Text) -> Found {
+    match judge(text) {
         Err(refused) => Found::Refused(refused),
         Ok(None) => Found::None,
         Ok(Some(rows)) => Found::Breach(rows),
     }
 }
 
-fn judge(bytes: &[u8]) -> Result<Option<Vec<usize>>, Refusal> {
-    let text = rule(bytes)?;
+fn judge(text: Text) -> Result<Option<Vec<usize>>, Refusal> {
+    let text = ruled(text)?;
     Ok(first_breach(&text))
 }
 
 /// A text with a rule. After the faulty lines 8, then 9.
 pub fn rule(bytes: &[u8]) -> Result<Text, Refusal> {
-    let text = read(bytes)?;
+    ruled(read(bytes)?)
+}
+
+fn ruled(text: Text) -> Result<Text, Refusal> {
     if text.literals.is_empty() {
         return Err(refusal(8, 0));
     }

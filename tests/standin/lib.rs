@@ -4,11 +4,15 @@
 #[path = "../boundary.rs"]
 #[allow(dead_code)]
 mod boundary;
+#[path = "../records.rs"]
+#[allow(dead_code)]
+mod records;
 
-use boundary::{breach, refused, written, Rows, NONE};
+use boundary::{breach, refused, written, Record, Rows, Rule, Statements, NONE, UNFIT};
+use records::said_by;
 use reference::grounds::verify_prints;
 use reference::writing::grounds_prints;
-use reference::{find, next_after, normalise, Found};
+use reference::{find, find_in, next_after, normalise, Found};
 
 pub fn program(name: &str, input: &[u8]) -> Vec<u8> {
     match name {
@@ -30,6 +34,22 @@ pub unsafe extern "C" fn checker_find(text: *const u8, length: usize, rows: &mut
 pub unsafe extern "C" fn checker_next(text: *const u8, length: usize, rows: &mut Rows) -> u64 {
     let after = rows.map(usize::from);
     packed(next_after(std::slice::from_raw_parts(text, length), &after), rows)
+}
+
+/// # Safety
+/// `rows` has `count` records.
+#[no_mangle]
+pub unsafe extern "C" fn checker_find_rows(
+    rows: *const Record,
+    count: usize,
+    said: &Statements,
+    rule: &Rule,
+    places: &mut Rows,
+) -> u64 {
+    match said_by(std::slice::from_raw_parts(rows, count), said, rule) {
+        None => UNFIT,
+        Some(text) => packed(find_in(text), places),
+    }
 }
 
 fn packed(found: Found, rows: &mut Rows) -> u64 {

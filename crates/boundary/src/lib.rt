@@ -1,4 +1,7 @@
 // The finder and the normaliser for programs in other languages: a reply is one number, and what it hands over stands in the caller's space.
+
+mod table;
+
 use finder::Outcome;
 use ledger::Refusal;
 use normaliser::Written;

@@ -206,7 +206,7 @@ fn unless_empty(literals: usize, other: Answer) -> Answer
 }
 
 // Refusal 8, then 9.
-fn judge(literals: usize, clash: Contradiction) -> Answer
+pub fn judge(literals: usize, clash: Contradiction) -> Answer
     requires { ⌜ Low clash ⌝ }
     ensures { λ r. ⌜ r ≡ judgedBy literals clash ⌝ }
 {

@@ -23,6 +23,7 @@ pub struct ContextColumns {
 }
 
 // Pattern rows with their kind, 4 or 5, a head, a count and four places for arguments; literals with their kind, 6 or 7; how many of each.
+#[repr(C)]
 pub struct ClauseColumns {
     pub patterns: usize,
     pub kinds: [u8; 64],
