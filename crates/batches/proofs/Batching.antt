@@ -20,12 +20,12 @@ use Rattle.grounding.specs.Draft.{countIn, stepOf, stepIn, draft}
 use Rattle.grounding.specs.Classes.{upto}
 use Rattle.grounding.proofs.Drafts.{Follow, length-draft}
 use Rattle.batches.specs.Marking.{kept, markedFor}
-use Rattle.batches.specs.Sending.{newOf, Out, stepsIn, forgotten, written, sendOne, sent, resent, batch}
+use Rattle.batches.specs.Sending.{newOf, Out, stepsIn, forgotten, written, sendOne, sent, resent, batch, Small}
 use Rattle.batches.specs.Drawing.{CitedLater}
 use Rattle.batches.proofs.Marks.{draft-at, zeros-at, CitedBy, kindAt, citesAt, for-self, for-closed, for-why}
 use Rattle.batches.proofs.Forgetting.{forgotten-long, forgotten-shared, forgotten-own}
 use Rattle.batches.proofs.Sends.{positive, new-at, Shown, cites-new, Closed, Sending, sending-start}
-use Rattle.batches.proofs.Words.{Small, Emitting, emitted-all}
+use Rattle.batches.proofs.Words.{Emitting, emitted-all}
 
 -- ---- how many are written
 

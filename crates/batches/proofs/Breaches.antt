@@ -27,9 +27,9 @@ use Rattle.meaning.proofs.Lists.{below-at}
 use Rattle.meaning.proofs.Table.{length-terms}
 use Rattle.meaning.proofs.Entries.{length-map}
 use Rattle.meaning.proofs.Cited.{Ready}
+use Rattle.meaning.proofs.Built.{rows-at}
 use Rattle.numbering.specs.Entries.{Filled}
 use Rattle.numbering.specs.declared.table.Table.{Table}
-use Rattle.numbering.proofs.Keying.{rows-at}
 use Rattle.grounding.specs.Draft.{countIn}
 use Rattle.grounding.specs.Classes.{State, upto}
 use Rattle.grounding.specs.Rounds.{started, stated, rounds}
@@ -37,9 +37,8 @@ use Rattle.grounding.specs.Concluding.{said, resumed}
 use Rattle.grounding.proofs.Drafts.{Under}
 use Rattle.grounding.proofs.Passes.{Keys}
 use Rattle.grounding.proofs.Literal.{Closed, closed-shared, shared-few, SaidFor, said-literal, hold-at}
-use Rattle.batches.specs.Sending.{stepsIn}
+use Rattle.batches.specs.Sending.{stepsIn, Small}
 use Rattle.batches.specs.Drawing.{Drawn, blankDrawn, drawnTo, drawn, endWritten, Used}
-use Rattle.batches.proofs.Words.{Small}
 use Rattle.batches.proofs.Draws.{Drawing, drawing-start, drawing-next, drawing-accepted}
 
 pub breach-chosen : (c : Context) (k : Clause) (a : List ℕ) → Breach c (rangeOf c) k a

@@ -30,10 +30,9 @@ use Rattle.grounding.proofs.Builds.{all}
 use Rattle.grounding.proofs.Passes.{Keys}
 use Rattle.grounding.proofs.Concludes.{conclusion}
 use Rattle.grounding.proofs.Literal.{Closed, SaidFor, said-literal, said-shared, hold-at}
-use Rattle.batches.specs.Sending.{newOf, Out, stepsIn, batch}
+use Rattle.batches.specs.Sending.{newOf, Out, stepsIn, batch, Small}
 use Rattle.batches.specs.Drawing.{Drawn, drawSaid, drawOne, blankDrawn, endWritten, CitedLater, Used, by-step, by-end}
 use Rattle.batches.proofs.Marks.{zeros-at}
-use Rattle.batches.proofs.Words.{Small}
 use Rattle.batches.proofs.Batching.{Knows, knows-start, Sent, batch-sent}
 
 pub owner-most : (j : ℕ) (l : Literal) → ownerOf j l ≤ suc j

@@ -22,7 +22,7 @@ use Rattle.grounding.specs.Draft.{refOf, stepOf, countIn, ownerAt, stepIn, draf
 use Rattle.grounding.specs.Classes.{upto}
 use Rattle.grounding.proofs.Drafts.{Follow, length-draft}
 use Rattle.batches.specs.Marking.{kept}
-use Rattle.batches.specs.Sending.{newOf, newIn, wordOf, twoIn, wordIn, numbersWord, Out, stepsIn, written, sendOne, sent}
+use Rattle.batches.specs.Sending.{newOf, newIn, wordOf, twoIn, wordIn, numbersWord, Out, stepsIn, written, sendOne, sent, Small}
 use Rattle.batches.proofs.Marks.{draft-at}
 use Rattle.batches.proofs.Sends.{new-at, new-none, renamed, renamed-cites, renamed-plain, Closed, Sending, sending-skip, sending-send}
 
@@ -62,10 +62,6 @@ drop-later : (l l₀ : List ℕ) (i v : ℕ) → drop i l ≡ drop i l₀ → dr
 drop-later l l₀ i v e = drop-set-lt (i + 1) l i v (omega arith) ∙ sym (drop-drop 1 i l) ∙ ap (drop 1) e ∙ drop-drop 1 i l₀
 
 -- ---- what a step that follows holds fits its places
-
--- the places of each step of a column are of 16 bits
-pub record Small (cells : List ℕ) : Type 0 where
-  pub places : (i : ℕ) → i < countIn cells → (j : ℕ) → 0 < j → j ≤ 7 → getD cells (i * 7 + j) 0 < 65536
 
 module _ (c : Context) (k : Clause) (a : List ℕ) (rows : length (c .rows) ≤ 255) (patterns : length (k .patterns) ≤ 64) where
   stands-small : (r : Ref) {t : _} → Stands c k a r t → (r .mark < 256) × (r .row < 65536)

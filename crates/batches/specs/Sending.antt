@@ -6,10 +6,11 @@
 --     written              one step more
 --     sendOne, sent        a step that is marked and has no new number; so many of a column
 --     batch                what one step of a column rests on
+--     Small                the places of the steps of a column are of 16 bits
 -- Assumes nothing.
 use mathlib.Core.Bool.{true, false}
 use mathlib.Core.List.{List}
-use Prim.Native.Nat.{ℕ, _+_, _*_}
+use Prim.Native.Nat.{ℕ, _+_, _*_, _≤_, _<_}
 use lib.Dec.{eqb, ltb}
 use lib.ListN.{getD, set, take}
 use Rattle.meaning.specs.Grounds.{Step}
@@ -90,3 +91,7 @@ resent from o = record { news = forgotten from (o .news); next = o .next; firsts
 -- the first steps of a column are shared, and the others an owner's; step s, and what it rests on
 unfoldable pub batch : ℕ → ℕ → ℕ → List ℕ → ℕ → Out → Out
 batch rows from owner cells s o = sent rows from owner cells (markedFor cells s) (countIn cells) (resent from o)
+
+-- the places of each step of a column are of 16 bits
+pub record Small (cells : List ℕ) : Type 0 where
+  pub places : (i : ℕ) → i < countIn cells → (j : ℕ) → 0 < j → j ≤ 7 → getD cells (i * 7 + j) 0 < 65536

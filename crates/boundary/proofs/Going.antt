@@ -16,6 +16,7 @@ use Rattle.meaning.specs.FirstBy.{firstBy}
 use Rattle.meaning.specs.Formed.{Formed}
 use Rattle.meaning.specs.Replies.{breach, placesOf}
 use Rattle.meaning.specs.Listing.{OwnBreach, Lists, Goes}
+use Rattle.meaning.specs.Following.{widerBy}
 use Rattle.meaning.proofs.Computed.{repOf}
 use Rattle.meaning.proofs.Computes.{computed-first}
 use Rattle.meaning.proofs.Finds.{answers-one}
@@ -23,7 +24,6 @@ use Rattle.meaning.proofs.Order.{same-first}
 use Rattle.meaning.proofs.Promised.{closing-represents}
 use Rattle.meaning.proofs.Listing.{Nexts, enumerates-goes, goes-enumerates}
 use Rattle.meaning.proofs.ListingNext.{first-sought, own-sought}
-use Rattle.meaning.proofs.FollowingNumbers.{widerBy}
 use Rattle.finder.specs.Following.{FollowsIn}
 
 module _ (c : Context) (k : Clause) (formed : Formed c k) (free : Consistent c) where

@@ -21,12 +21,13 @@ use Rattle.meaning.specs.Equality.{repAt}
 use Rattle.meaning.specs.Formed.{Ordered}
 use Rattle.meaning.specs.ByTable.{sameList}
 use Rattle.meaning.specs.Columns.{rowsFrom}
+use Rattle.meaning.specs.Closing.{agree, unite}
 use Rattle.meaning.proofs.Logic.{and-true-left, and-true-right, false-true}
 use Rattle.meaning.proofs.Lists.{sameList-true, sameList-self}
-use Rattle.meaning.proofs.Closing.{agree, unite}
 use Rattle.meaning.proofs.Closes.{agree-equal}
+use Rattle.meaning.proofs.Built.{length-rows}
 use Rattle.closing.specs.Steps.{Laid, keyOf, Last, Nexts, Mate, uniteAt, Joined, Kept, Outcome, Alike, Passed}
-use Rattle.closing.proofs.Rows.{length-rows, mix-below}
+use Rattle.closing.proofs.Rows.{mix-below}
 use Rattle.closing.proofs.Merges.{outcome-none, outcome-then, unite-outcome}
 
 -- ---- rows that agree

@@ -9,7 +9,7 @@ use Prim.Native.Nat.{ℕ, _*_, _≤_}
 use lib.ListN.{length}
 use native.Mathlib.Omega.{arith}
 use borrow.Author.Needs.{needs}
-use Rattle.meaning.proofs.Closing.{count}
+use Rattle.meaning.specs.Closing.{count}
 use Rattle.meaning.proofs.Closes.{length-count, repAt-count}
 use Rattle.columns.specs.Fit.{Decides, Laid, FitContext}
 use Rattle.columns.proofs.Deciding.{decides-not}

@@ -10,8 +10,7 @@ use native.Mathlib.Omega.{arith}
 use Rattle.meaning.specs.Context.{equationsOf, equations}
 use Rattle.meaning.specs.Equality.{repAt, Promise}
 use Rattle.meaning.specs.ByTable.{sameList}
-use Rattle.meaning.proofs.Progress.{move}
-use Rattle.meaning.proofs.Closing.{count, unite, upto, statedPass, agree, uniteIf, rowPass, rowsPass, round}
+use Rattle.meaning.specs.Closing.{move, count, unite, upto, statedPass, agree, uniteIf, rowPass, rowsPass, round}
 use Rattle.meaning.proofs.Closes.{length-count, repAt-count}
 use Rattle.closing.specs.declared.Answer.{Answer}
 use Rattle.closing.specs.declared.Answer.the-variants.{Closed}

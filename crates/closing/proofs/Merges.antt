@@ -14,8 +14,8 @@ use lib.ListN.{length, length-map}
 use borrow.Author.Tests.{eqb-true, eqb-false, ltb-true, ltb-false}
 use Rattle.meaning.specs.Context.{Row, termAt}
 use Rattle.meaning.specs.Equality.{Equal, reflexive, symmetric, transitive, repAt}
-use Rattle.meaning.proofs.Progress.{Sofar, move, move-cases, total, merge-keeps, merge-falls}
-use Rattle.meaning.proofs.Closing.{unite, count}
+use Rattle.meaning.specs.Closing.{Sofar, move, total, unite, count}
+use Rattle.meaning.proofs.Progress.{move-cases, merge-keeps, merge-falls}
 use Rattle.meaning.proofs.Closes.{repAt-map, move-none, length-count, repAt-count}
 use Rattle.closing.specs.Steps.{Kept, Grown, Outcome}
 

@@ -15,10 +15,10 @@ use Rattle.meaning.specs.Context.{Row}
 use Rattle.meaning.specs.Equality.{repAt}
 use Rattle.meaning.specs.Formed.{Ordered}
 use Rattle.meaning.specs.Columns.{rowsFrom}
-use Rattle.meaning.proofs.Closing.{agree, unite}
+use Rattle.meaning.specs.Closing.{agree, unite}
 use Rattle.meaning.proofs.Closes.{agree-equal}
+use Rattle.meaning.proofs.Built.{length-rows}
 use Rattle.closing.specs.Steps.{Laid, Seated, Found, Kept, Outcome, Nearer}
-use Rattle.closing.proofs.Rows.{length-rows}
 use Rattle.closing.proofs.Merges.{outcome-none, outcome-then, unite-outcome}
 use Rattle.closing.proofs.Chains.{SameAt, agree-true}
 

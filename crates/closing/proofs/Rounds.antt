@@ -16,12 +16,11 @@ use Rattle.meaning.specs.Context.{Row, termAt, Context, equations, equationsOf,
 use Rattle.meaning.specs.Equality.{Equal, given, repAt, Promise}
 use Rattle.meaning.specs.Formed.{Fit, Within}
 use Rattle.meaning.specs.Columns.{rowsFrom, statementsFrom, contextFrom}
-use Rattle.meaning.proofs.Progress.{total}
-use Rattle.meaning.proofs.Closing.{unite, upto, count}
+use Rattle.meaning.specs.Closing.{total, unite, upto, count}
 use Rattle.meaning.proofs.Promised.{closed-representatives}
+use Rattle.meaning.proofs.Built.{length-rows}
 use Rattle.columns.specs.Fit.{FitContext}
 use Rattle.closing.specs.Steps.{Laid, stateStep, Kept, Grown, Outcome, Alike, Passed, Nearer}
-use Rattle.closing.proofs.Rows.{length-rows}
 use Rattle.closing.proofs.Merges.{kept-start, unite-outcome, unite-joins}
 use Rattle.closing.proofs.Pairs.{pairAt, pairsFrom, isEquation, equations-are, pairs-place, pairs-from}
 

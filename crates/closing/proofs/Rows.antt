@@ -1,11 +1,10 @@
 -- Rows read from columns: two rows compared, and the key of a row's chain.
---     length-rows, row-in   the rows of columns, one by one
 --     mine                  what `same_args`, `agree`, `mixed` and `chain` leave to show
 -- Assumes nothing.
 use mathlib.Core.Bool.{Bool, true, false, _&&_}
 use mathlib.Core.List.{List, [], _∷_, _++_}
 use mathlib.Core.Path.{_≡_, refl, ap, ap₂, sym, _∙_, subst}
-use Prim.Native.Nat.{ℕ, zero, suc, _+_, _-_, _*_, _%_, _≤_, _<_}
+use Prim.Native.Nat.{ℕ, suc, _+_, _-_, _*_, _%_, _≤_, _<_}
 use native.Mathlib.Numerals.{add-one}
 use native.Mathlib.Omega.{arith}
 use lib.Dec.{eqb}
@@ -13,28 +12,14 @@ use lib.ListN.{length, getD, take, drop, length-take, length-drop, length-map, d
 use lib.Seq.{drop-cons, getD-take, getD-drop, take-suc, take-length}
 use borrow.Author.Needs.{needs}
 use borrow.Author.Tests.{eq-eqb, ne-eqb}
-use Rattle.meaning.specs.Context.{row₀, rowAt}
 use Rattle.meaning.specs.Equality.{repAt}
 use Rattle.meaning.specs.ByTable.{sameList}
-use Rattle.meaning.specs.Columns.{rowsFrom, rowFrom}
-use Rattle.meaning.proofs.Lists.{length-snoc, snoc-at, sameList-true}
-use Rattle.meaning.proofs.Closing.{agree}
+use Rattle.meaning.specs.Columns.{rowsFrom}
+use Rattle.meaning.specs.Closing.{agree}
+use Rattle.meaning.proofs.Lists.{sameList-true}
 use Rattle.meaning.proofs.Closes.{repAt-map}
+use Rattle.meaning.proofs.Built.{rows-at}
 use Rattle.closing.specs.Steps.{Laid, Comparable, Seated, argReps, sameArgs, mix, keyOf}
-
-pub length-rows : (symbols counts args : List ℕ) (n : ℕ) → length (rowsFrom symbols counts args n) ≡ n
-unfolding rowsFrom
-length-rows symbols counts args zero = refl
-length-rows symbols counts args (suc n) = length-snoc (rowsFrom symbols counts args n) _ ∙ ap suc (length-rows symbols counts args n)
-
-pub row-in : (symbols counts args : List ℕ) (n i : ℕ) → i < n → rowAt (rowsFrom symbols counts args n) i ≡ rowFrom symbols counts args i
-unfolding rowsFrom
-row-in symbols counts args zero i h = absurd (omega arith)
-row-in symbols counts args (suc n) i h =
-    snoc-at (rowsFrom symbols counts args n) (rowFrom symbols counts args n) row₀ i (λ k r. r ≡ rowFrom symbols counts args k)
-    (omega (arith, length-snoc (rowsFrom symbols counts args n) (rowFrom symbols counts args n), length-rows symbols counts args n))
-    (λ k. row-in symbols counts args n i (omega (arith, length-rows symbols counts args n)))
-    (ap (rowFrom symbols counts args) (sym (length-rows symbols counts args n)))
 
 -- ---- two lists compared from their start: the first k elements are the same
 pub record Comparing (l m : List ℕ) (k : ℕ) : Type 0 where
@@ -130,7 +115,7 @@ module _ (symbols counts args : List ℕ) (n : ℕ) (t : List ℕ) (i j : ℕ) (
   agree-in : agree (rowsFrom symbols counts args n) t i j
       ≡ (eqb (getD symbols i 0) (getD symbols j 0) && sameList (argReps args t i (getD counts i 0)) (argReps args t j (getD counts j 0)))
   unfolding agree
-  agree-in = rw (row-in symbols counts args n i hi, row-in symbols counts args n j hj)
+  agree-in = rw (rows-at symbols counts args n i hi, rows-at symbols counts args n j hj)
 
   pub agree-symbols : (getD symbols i 0 ≡ getD symbols j 0 → ⊥) → false ≡ agree (rowsFrom symbols counts args n) t i j
   agree-symbols d = sym (agree-in ∙ rw (ne-eqb (getD symbols i 0) (getD symbols j 0) d))
@@ -222,7 +207,7 @@ module _ (symbols counts args t : List ℕ) (n i x c : ℕ) (hi : i < n) (ex : x
 
   pub key-of : (r : ℕ) → r ≡ mix ((x * 37) % 256) (argReps args t i c) → r ≡ keyOf (rowsFrom symbols counts args n) t i
   unfolding keyOf
-  key-of r e = e ∙ rw (row-in symbols counts args n i hi, ← ex, ← ec)
+  key-of r e = e ∙ rw (rows-at symbols counts args n i hi, ← ex, ← ec)
 
 pub ruleset mine = (
   needs,

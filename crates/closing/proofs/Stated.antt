@@ -9,7 +9,7 @@ use native.Mathlib.Omega.{arith}
 use lib.ListN.{getD}
 use borrow.Author.Needs.{needs}
 use borrow.Author.Tests.{eq-eqb, ne-eqb}
-use Rattle.meaning.proofs.Closing.{unite, upto}
+use Rattle.meaning.specs.Closing.{unite, upto}
 use Rattle.closing.specs.Steps.{stateStep}
 
 module _ (kinds lefts rights : List ℕ) (k : ℕ) (l m : List ℕ) where

@@ -13,8 +13,7 @@ use lib.Seq.{drop-cons, set-at, take-suc, take-length, drop-length, length-take-
 use borrow.Author.Needs.{needs}
 use borrow.Author.Tests.{eqb-true, eqb-false, eq-eqb, ne-eqb, lt-ltb, le-ltb}
 use Rattle.meaning.specs.Equality.{repAt}
-use Rattle.meaning.proofs.Progress.{move, total}
-use Rattle.meaning.proofs.Closing.{unite, count}
+use Rattle.meaning.specs.Closing.{move, total, unite, count}
 use Rattle.meaning.proofs.Closes.{move-none, length-count, repAt-count}
 
 pub past-end : (l : List ℕ) (i : ℕ) → length l ≤ i → 0 ≡ getD l i 0

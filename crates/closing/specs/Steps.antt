@@ -18,8 +18,7 @@ use Rattle.meaning.specs.Context.{Row, rowAt}
 use Rattle.meaning.specs.Equality.{repAt}
 use Rattle.meaning.specs.Formed.{Ordered}
 use Rattle.meaning.specs.ByTable.{sameList}
-use Rattle.meaning.proofs.Progress.{Sofar, total}
-use Rattle.meaning.proofs.Closing.{unite, agree}
+use Rattle.meaning.specs.Closing.{Sofar, total, unite, agree}
 
 -- room for n rows, and no row has more than four arguments
 pub record Laid (counts args : List ℕ) (n : ℕ) : Type 0 where

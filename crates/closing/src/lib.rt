@@ -22,7 +22,7 @@ ghost use Rattle.meaning.specs.Context.{differencesOf};
 ghost use Rattle.meaning.specs.Equality.{repAt, Promise};
 ghost use Rattle.meaning.specs.ByTable.{clashOf, apartBy};
 ghost use Rattle.meaning.specs.Columns.{statementsFrom, contextFrom};
-ghost use Rattle.meaning.proofs.Closing.{count as numbers};
+ghost use Rattle.meaning.specs.Closing.{count as numbers};
 ghost use Rattle.columns.specs.Fit.{FitContext};
 ghost use Rattle.closing.specs.Claims.{Closes, clashing};
 

@@ -8,7 +8,7 @@ ghost use Prim.Native.Nat.{ℕ, _<_, _≤_};
 ghost use lib.ListN.{getD, replicate};
 ghost use Rattle.meaning.specs.Equality.{repAt};
 ghost use Rattle.meaning.specs.Columns.{rowsFrom};
-ghost use Rattle.meaning.proofs.Closing.{agree as agreed};
+ghost use Rattle.meaning.specs.Closing.{agree as agreed};
 ghost use Rattle.closing.specs.Steps.{Laid, Comparable, Seated, argReps, sameArgs, mix, keyOf, Mate, Joined, Passed};
 
 // The representative of the row that stands at a place of the arguments.

@@ -4,7 +4,7 @@ use super::table::unite;
 use super::table::wide;
 ghost use mathlib.Core.Path.{_≡_};
 ghost use Prim.Native.Nat.{_<_, _≤_};
-ghost use Rattle.meaning.proofs.Closing.{upto};
+ghost use Rattle.meaning.specs.Closing.{upto};
 ghost use Rattle.closing.specs.Steps.{stateStep, Read, SideClass, differenceAt, ClashAt, bothSame, eitherSame, apartAt};
 
 // The rows of statement k get one representative, where it is an equation.

@@ -4,8 +4,7 @@ ghost use mathlib.Core.List.{map};
 ghost use Prim.Native.Nat.{_<_, _≤_};
 ghost use lib.ListN.{length};
 ghost use Rattle.meaning.specs.Equality.{repAt};
-ghost use Rattle.meaning.proofs.Progress.{move, total};
-ghost use Rattle.meaning.proofs.Closing.{unite as united, count as numbers};
+ghost use Rattle.meaning.specs.Closing.{move, total, unite as united, count as numbers};
 
 pub fn wide(x: u16) -> usize
     ensures { λ r. ⌜ (r ≡ x) × (r < 65536) ⌝ }

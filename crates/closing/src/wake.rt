@@ -13,7 +13,7 @@ use super::table::wide8;
 ghost use mathlib.Core.Path.{_≡_};
 ghost use Prim.Native.Nat.{_<_, _≤_};
 ghost use Rattle.meaning.specs.Columns.{rowsFrom};
-ghost use Rattle.meaning.proofs.Closing.{unite as united};
+ghost use Rattle.meaning.specs.Closing.{unite as united};
 ghost use Rattle.closing.specs.Steps.{Laid, Seated, Found, Nearer};
 
 // The links lead over the places of arguments of one class: place 1,020 + c to the first over the class c, and a place of an argument to the

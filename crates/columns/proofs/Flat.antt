@@ -16,8 +16,8 @@ use Rattle.meaning.specs.Rules.{Pattern, variable, apply, Literal, equal, Below
 use Rattle.meaning.specs.Formed.{Ordered, Within, Placed, AllPlaced, Names, NamesAll}
 use Rattle.meaning.specs.Columns.{argsAt, rowFrom, rowsFrom, statementOf, statementsFrom, contextFrom, patternOf, patternsFrom, literalOf, literalsFrom}
 use Rattle.meaning.proofs.Lists.{below-at}
+use Rattle.meaning.proofs.Built.{build, build-length, build-at, statementAt, literalAt, patternIn, rows-build, statements-build, patterns-build, literals-build}
 use Rattle.columns.specs.Fit.{Decides, Every, Earlier, PlacedAt, NamedAt, PatternAt, FitContext, FitClause}
-use Rattle.columns.proofs.Built.{build, build-length, build-at, statementAt, literalAt, patternIn, rows-build, statements-build, patterns-build, literals-build}
 
 below-of : (n : ℕ) (l : List ℕ) → ((k : ℕ) → k < length l → getD l k 0 < n) → Below n l
 below-of n [] h = tt

@@ -1,4 +1,3 @@
 -- The root of the laws.
 pub mod Deciding
-pub mod Built
 pub mod Flat

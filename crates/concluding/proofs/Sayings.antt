@@ -23,7 +23,7 @@ use Rattle.grounding.specs.Draft.{countIn, Wrote}
 use Rattle.grounding.specs.Classes.{State, Left, same}
 use Rattle.grounding.specs.Rounds.{oneLabel}
 use Rattle.grounding.specs.Concluding.{parted, placeSame, Found, sideAt, saidEqual, saidSame, widened, saidDiffer, saidBy, said, resumed}
-use Rattle.settling.proofs.Classing.{left-is, wrote-is}
+use Rattle.settling.proofs.Classing.{left-is}
 use Rattle.settling.proofs.Rounding.{length-pairs, pairs-left, pairs-right}
 use Rattle.concluding.specs.Saying.{Says}
 

@@ -21,12 +21,13 @@ use borrow.Author.Needs.{needs}
 use Rattle.meaning.specs.Context.{Context, differencesOf}
 use Rattle.meaning.specs.Equality.{repAt, reflexive}
 use Rattle.meaning.specs.ByTable.{clear, clashOf}
-use Rattle.meaning.specs.Columns.{rowFrom, rowsFrom, statementsFrom, contextFrom}
+use Rattle.meaning.specs.Columns.{rowFrom, statementsFrom, contextFrom}
+use Rattle.meaning.specs.Following.{widerBy}
 use Rattle.meaning.proofs.Apartness.{clash-clear}
 use Rattle.meaning.proofs.Following.{consistent-wider}
-use Rattle.meaning.proofs.FollowingNumbers.{widerBy, widerBy-rows, widerBy-inside, widerBy-outside, widerBy-symmetric}
+use Rattle.meaning.proofs.FollowingNumbers.{widerBy-rows, widerBy-inside, widerBy-outside, widerBy-symmetric}
+use Rattle.meaning.proofs.Built.{build-length, rows-build}
 use Rattle.columns.specs.Fit.{Laid, FitContext}
-use Rattle.columns.proofs.Built.{build-length, rows-build}
 use Rattle.further.specs.Claims.{FitRows, Orderly, ClashesWith}
 use Rattle.further.proofs.Standing.{promise-orderly}
 use Rattle.further.proofs.Answers.{fit-rows}

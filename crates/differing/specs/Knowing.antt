@@ -15,7 +15,7 @@ use Rattle.meaning.specs.Equality.{Promise}
 use Rattle.meaning.specs.Columns.{contextFrom}
 use Rattle.columns.specs.Fit.{Laid, FitContext}
 use Rattle.further.specs.Marks.{Marks}
-use Rattle.meaning.proofs.FollowingNumbers.{widerBy}
+use Rattle.meaning.specs.Following.{widerBy}
 
 abbrev pub markOf : Bool → ℕ
 markOf false = 1

@@ -4,7 +4,7 @@ ghost use mathlib.Core.Path.{_≡_};
 ghost use Prim.Native.Nat.{_+_, _*_, _<_};
 ghost use lib.ListN.{replicate};
 ghost use Rattle.meaning.specs.Columns.{contextFrom};
-ghost use Rattle.meaning.proofs.FollowingNumbers.{widerBy};
+ghost use Rattle.meaning.specs.Following.{widerBy};
 ghost use Rattle.differing.specs.Knowing.{markOf, ClosedBy, Knows};
 
 // A memo that tells nothing.

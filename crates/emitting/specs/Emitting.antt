@@ -15,8 +15,7 @@ use mathlib.Core.Path.{_≡_}
 use Prim.Native.Nat.{ℕ, _+_, _*_, _≤_, _<_}
 use lib.ListN.{getD}
 use Rattle.grounding.specs.Draft.{refOf, countIn}
-use Rattle.batches.specs.Sending.{wordIn, numbersWord, Out, sendOne, sent, batch}
-use Rattle.batches.proofs.Words.{Small}
+use Rattle.batches.specs.Sending.{wordIn, numbersWord, Out, sendOne, sent, batch, Small}
 
 pub record Kinded (cells : List ℕ) : Type 0 where
   pub kinds : (i : ℕ) → i < countIn cells → getD cells (i * 7 + 1) 0 < 256

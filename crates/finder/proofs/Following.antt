@@ -18,11 +18,11 @@ use Rattle.meaning.specs.Text.{narrow, Read}
 use Rattle.meaning.specs.Replies as M
 use Rattle.meaning.specs.Replies.{breach, none, refused, replyOf, placesOf}
 use Rattle.meaning.specs.Listing.{OwnBreach}
+use Rattle.meaning.specs.Following.{widerBy}
 use Rattle.meaning.proofs.Answered.{replies-one}
 use Rattle.meaning.proofs.Order.{same-first, first-one}
 use Rattle.meaning.proofs.Pruned.{Sought}
 use Rattle.meaning.proofs.ListingNext.{next-first, own-sought}
-use Rattle.meaning.proofs.FollowingNumbers.{widerBy}
 use Rattle.ledger.specs.declared.ContextColumns.{ContextColumns}
 use Rattle.ledger.specs.declared.ClauseColumns.{ClauseColumns}
 use Rattle.ledger.specs.declared.Refusal.{Refusal}

@@ -7,19 +7,19 @@
 --     prepares-one                     two answers to one text are equal
 -- Assumes nothing.
 use mathlib.Core.List.{List, [], _∷_}
-use mathlib.Core.Path.{_≡_, refl, sym, ap, ap₂, subst, subst₂, _∙_}
+use mathlib.Core.Path.{_≡_, refl, sym, ap, subst, subst₂, _∙_}
 use Prim.Native.Nat.{ℕ, zero, suc, _+_}
 use native.Mathlib.Omega.{arith}
 use native.Mathlib.Numerals.{add-one}
 use mir.Syntax.{w16}
 use mir.Val.{Fits}
 use borrow.Author.Needs.{needs}
-use lib.ListN.{length, getD, length-append, length-replicate}
+use lib.ListN.{length, length-replicate}
 use Rattle.meaning.specs.Context.{Context, equationsOf, differencesOf, differences}
 use Rattle.meaning.specs.Equality.{repAt, Consistent, Promise}
 use Rattle.meaning.specs.Rules.{Found, found, nothing, Answers, Clause}
 use Rattle.meaning.specs.ByTable.{clashOf}
-use Rattle.meaning.specs.Columns.{contextFrom, clauseFrom, literalOf, literalsFrom, rowFrom, rowsFrom, statementsFrom}
+use Rattle.meaning.specs.Columns.{contextFrom, clauseFrom, literalsFrom, rowsFrom, statementsFrom}
 use Rattle.meaning.specs.Text as M
 use Rattle.meaning.specs.Text.{narrow, Read, faulty, taken, read}
 use Rattle.meaning.specs.Replies.{Reply, Judged, empty, clashes, answers, refused, refusal, replyOf, Replies, RepliesTo}
@@ -27,6 +27,7 @@ use Rattle.meaning.proofs.Apartness.{clash-first, clash-clear}
 use Rattle.meaning.proofs.Computes.{computed-first}
 use Rattle.meaning.proofs.Promised.{promise-one}
 use Rattle.meaning.proofs.Answered.{replies-one}
+use Rattle.meaning.proofs.Built.{length-literals, length-rows}
 use Rattle.ledger.specs.Columns.{noContext}
 use Rattle.ledger.specs.declared.ContextColumns.{ContextColumns}
 use Rattle.ledger.specs.declared.ClauseColumns.{ClauseColumns}
@@ -74,16 +75,6 @@ pub rule-taken : (first : Said) (literals : ℕ) (r : Contradiction) → first �
 rule-taken first literals r e y q = q ∙ sym (ap (λ (z : Said). ruledBy z literals r) e)
 
 -- ---- columns
-
-length-literals : (signs lefts rights : List ℕ) (m : ℕ) → length (literalsFrom signs lefts rights m) ≡ m
-unfolding literalsFrom
-length-literals signs lefts rights zero = refl
-length-literals signs lefts rights (suc m) = omega (arith, length-append (literalsFrom signs lefts rights m) (literalOf (getD signs m 0) (getD lefts m 0) (getD rights m 0) ∷ []), length-literals signs lefts rights m)
-
-length-rows : (symbols counts args : List ℕ) (n : ℕ) → length (rowsFrom symbols counts args n) ≡ n
-unfolding rowsFrom
-length-rows symbols counts args zero = refl
-length-rows symbols counts args (suc n) = omega (arith, length-append (rowsFrom symbols counts args n) (rowFrom symbols counts args n ∷ []), length-rows symbols counts args n)
 
 pub rows-long : (c : ContextColumns) → length (said c .rows) ≡ c .rows
 unfolding contextFrom

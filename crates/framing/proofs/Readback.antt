@@ -1,8 +1,8 @@
 -- What `verify` reads of a line that was written is what it was written from.
 --     byte-back                byte i of a line is the byte that was written
 --     four-value, eight-value  a number's four or eight low bytes are the number, where it has no more
---     step-good, end-good      the lines are well-formed, a step's as a step and a conclusion's as a conclusion
---     step-back                the three words of a step
+--     step-concludes, end-concludes           a step's line is none of a conclusion, and a conclusion's is
+--     step-first, step-second, step-third     the three words of a step
 --     end-back                 the fields of a conclusion
 -- Assumes nothing.
 use mathlib.Core.Bool.{true, false}

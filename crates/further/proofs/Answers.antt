@@ -17,11 +17,11 @@ use Rattle.meaning.specs.Following.{withEquation}
 use Rattle.meaning.proofs.Logic.{false-true}
 use Rattle.meaning.proofs.Lists.{sameList-true, sameList-self}
 use Rattle.meaning.proofs.Promised.{promise-one}
+use Rattle.meaning.proofs.Built.{length-rows}
 use Rattle.columns.specs.Fit.{Laid, FitContext}
 use Rattle.closing.specs.declared.Answer.{Answer}
 use Rattle.closing.specs.declared.Answer.the-variants.{Closed, Unfit}
 use Rattle.closing.specs.declared.Classes.{Classes}
-use Rattle.closing.proofs.Rows.{length-rows}
 use Rattle.further.specs.Claims.{Startable, standingIn, FitRows, Furthers, ClosesWith}
 use Rattle.further.specs.Marks.{MarksOf}
 use Rattle.further.proofs.Standing.{standing-adds, promise-startable}

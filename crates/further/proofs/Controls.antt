@@ -13,7 +13,7 @@ use native.Mathlib.Omega.{arith}
 use Rattle.meaning.specs.Context.{Row, Context, differ, terms, grow, pick, termAt, equationsOf, differencesOf, differences}
 use Rattle.meaning.specs.Equality.{Promise, EqualIn, given, symmetric, congruent, same-stop, same-more}
 use Rattle.meaning.specs.Following.{withEquation, followsBy, amongBy, argumentBy, sideBy, occursBy}
-use Rattle.meaning.proofs.Closing.{count}
+use Rattle.meaning.specs.Closing.{count}
 use Rattle.further.specs.Marks.{busyBy}
 
 -- a, b, c, f(a) and f(b), of which the last two differ

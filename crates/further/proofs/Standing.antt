@@ -20,7 +20,8 @@ use Rattle.meaning.specs.Context.{Row, Statement, Term, termAt, Context, equati
 use Rattle.meaning.specs.Equality.{Equal, reflexive, symmetric, transitive, Lowest, Promise, repAt}
 use Rattle.meaning.specs.Formed.{Ordered, Fit}
 use Rattle.meaning.specs.Following.{withEquation}
-use Rattle.meaning.proofs.Sorted.{In, in-at}
+use Rattle.meaning.specs.Members.{In}
+use Rattle.meaning.proofs.Sorted.{in-at}
 use Rattle.meaning.proofs.Pairs.{in-equal, equal-by, within-in, in-within}
 use Rattle.meaning.proofs.Promised.{representatives-same, representatives-closed, closed-representatives}
 use Rattle.meaning.proofs.Following.{with-fit}

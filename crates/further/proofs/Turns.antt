@@ -14,11 +14,10 @@ use Rattle.meaning.specs.Context.{Row, equationsOf}
 use Rattle.meaning.specs.Equality.{repAt, Promise}
 use Rattle.meaning.specs.Columns.{rowsFrom}
 use Rattle.meaning.specs.Following.{withEquation}
-use Rattle.meaning.proofs.Progress.{total}
-use Rattle.meaning.proofs.Closing.{unite}
+use Rattle.meaning.specs.Closing.{total, unite}
 use Rattle.meaning.proofs.FollowingClosing.{with-given}
+use Rattle.meaning.proofs.Built.{length-rows}
 use Rattle.closing.specs.Steps.{Laid, Kept, Grown, Outcome, Alike, Passed, Nearer}
-use Rattle.closing.proofs.Rows.{length-rows}
 use Rattle.closing.proofs.Merges.{unite-outcome, unite-joins}
 use Rattle.further.specs.Claims.{Startable, standing, standingIn, FitRows, Underway, Settled}
 use Rattle.further.proofs.Standing.{standing-kept, standing-ends}

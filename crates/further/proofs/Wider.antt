@@ -19,16 +19,16 @@ use Rattle.meaning.specs.Rules.{Differ}
 use Rattle.meaning.specs.Formed.{Fit}
 use Rattle.meaning.specs.ByTable.{clashOf, apartBy}
 use Rattle.meaning.specs.Columns.{rowsFrom, statementsFrom, contextFrom}
-use Rattle.meaning.specs.Following.{withEquation, followsBy, occursBy}
+use Rattle.meaning.specs.Following.{withEquation, followsBy, occursBy, widerBy}
 use Rattle.meaning.proofs.Logic.{or-none, false-true}
 use Rattle.meaning.proofs.Promised.{model-rows}
 use Rattle.meaning.proofs.FollowingTable.{followsBy-true, follows-first, follows-clear}
-use Rattle.meaning.proofs.FollowingNumbers.{widerBy, widerBy-rows, widerBy-outside, widerBy-table, widerBy-stated, widerBy-unused}
+use Rattle.meaning.proofs.FollowingNumbers.{widerBy-rows, widerBy-outside, widerBy-table, widerBy-stated, widerBy-unused}
+use Rattle.meaning.proofs.Built.{length-rows}
 use Rattle.columns.specs.Fit.{FitContext}
 use Rattle.closing.specs.Claims.{clashing}
 use Rattle.closing.specs.declared.Contradiction.{Contradiction}
 use Rattle.closing.specs.declared.Contradiction.the-variants.{First, Clear}
-use Rattle.closing.proofs.Rows.{length-rows}
 use Rattle.further.specs.Claims.{Orderly, Startable, standingIn, ClashesWith}
 use Rattle.further.specs.Marks.{busyBy, raise, Marks}
 use Rattle.further.proofs.Standing.{standing-adds, promise-orderly}

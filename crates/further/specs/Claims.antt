@@ -15,8 +15,7 @@ use Rattle.meaning.specs.Context.{Row, Statement, same, Context}
 use Rattle.meaning.specs.Equality.{repAt, Promise}
 use Rattle.meaning.specs.Formed.{Ordered}
 use Rattle.meaning.specs.Columns.{rowsFrom, contextFrom}
-use Rattle.meaning.specs.Following.{withEquation}
-use Rattle.meaning.proofs.FollowingNumbers.{widerBy}
+use Rattle.meaning.specs.Following.{withEquation, widerBy}
 use Rattle.columns.specs.Fit.{Every, FitContext}
 use Rattle.closing.specs.declared.Answer.{Answer}
 use Rattle.closing.specs.declared.Answer.the-variants.{Closed, Unfit}

@@ -19,6 +19,7 @@ use Rattle.meaning.specs.Formed.{Within}
 use Rattle.meaning.specs.Values.{numberAt, argsOf}
 use Rattle.meaning.specs.Grounds.{literalAt, instanceAt}
 use Rattle.meaning.specs.Checking.{keyOf, numbered, firstFalse, Ends}
+use Rattle.meaning.specs.Closing.{agree}
 use Rattle.meaning.proofs.Logic.{and-both}
 use Rattle.meaning.proofs.Lists.{sameList-self}
 use Rattle.meaning.proofs.Entries.{entry-row, entry-instance, length-entries}
@@ -28,7 +29,6 @@ use Rattle.meaning.proofs.Verdicts.{false-ends}
 use Rattle.meaning.proofs.Pairs.{same-mono}
 use Rattle.meaning.proofs.Model.{Closed}
 use Rattle.meaning.proofs.Meaning.{meaning-rows}
-use Rattle.meaning.proofs.Closing.{agree}
 use Rattle.grounding.specs.Draft.{draft}
 use Rattle.grounding.specs.Classes.{labelIn, State}
 use Rattle.grounding.proofs.Builds.{Run, all, table, term, number-term, number-inside, ordered}

@@ -18,8 +18,9 @@ use lib.Seq.{getD-set-same, getD-set-other}
 use Rattle.meaning.specs.Context.{Context}
 use Rattle.meaning.specs.Rules.{Clause}
 use Rattle.meaning.specs.Values.{numberAt}
+use Rattle.meaning.specs.Closing.{move}
 use Rattle.meaning.proofs.Cited.{Ready}
-use Rattle.meaning.proofs.Progress.{move, move-cases}
+use Rattle.meaning.proofs.Progress.{move-cases}
 use Rattle.grounding.specs.Draft.{countIn, Written, turned, linked}
 use Rattle.grounding.specs.Classes.{labelIn, whyIn, State, upto, ownStep, same, bridge, sizeIn, carry, carried, moved, joined}
 use Rattle.grounding.proofs.Drafts.{Under}

@@ -3,7 +3,7 @@
 --     SaidFor                     steps that all follow, and by which the literal's conclusion is shown; at most 7,020, the shared ones first and as they were
 --     said-shared                 the first of these steps are the shared ones
 --     Closed, closed-shared       closed classes of shared steps; the closing ends in such
---     shared-few, shared-follow   shared steps are at most 7,018, and all follow
+--     shared-few                  shared steps are at most 7,018
 --     hold-at                     each literal of a breach holds
 -- A writer closes once and then takes one literal after the other. Each starts again from the closed classes (`resumed`), in the column that the literal
 -- before it has left: all that `said-literal` asks of a column is that it is `Under` the closed one, which that one itself is (`under-self`), and which it
@@ -89,9 +89,6 @@ module _ (c : Context) (k : Clause) (a : List ℕ) (ns : List ℕ) (ready : Read
 
     pub shared-few : from ≤ 7018
     shared-few = paid-most N (labelIn (closed .table)) from few (w .going .paid)
-
-    pub shared-follow : Follow c k a (draft rows 0 0 (closed .cells))
-    shared-follow = w .going .sound .good .follow
 
     -- for literal j, counted from 0
     pub record SaidFor (j : ℕ) (l : Literal) (s : Said) : Type 0 where

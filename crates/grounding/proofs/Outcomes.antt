@@ -20,9 +20,10 @@ use Rattle.meaning.specs.Rules.{Clause}
 use Rattle.meaning.specs.Values.{numberAt}
 use Rattle.meaning.specs.Grounds.{PairAt, UnequalAt}
 use Rattle.meaning.specs.Checking.{numbered}
+use Rattle.meaning.specs.Closing.{move}
 use Rattle.meaning.proofs.Entries.{entry-row}
 use Rattle.meaning.proofs.Cited.{Ready, length-numbered, numbered-left, numbered-right}
-use Rattle.meaning.proofs.Progress.{move, move-cases}
+use Rattle.meaning.proofs.Progress.{move-cases}
 use Rattle.grounding.specs.Draft.{countIn, Written, pushed}
 use Rattle.grounding.specs.Classes.{labelIn, State, upto, joined}
 use Rattle.grounding.specs.Rounds.{pairJoined, statedPair, addedPair, stateOne, stated}

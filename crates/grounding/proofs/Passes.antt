@@ -17,11 +17,11 @@ use Rattle.meaning.specs.Rules.{Clause, Below}
 use Rattle.meaning.specs.Values.{numberAt, argsOf}
 use Rattle.meaning.specs.ByTable.{sameList}
 use Rattle.meaning.specs.Checking.{keyOf}
+use Rattle.meaning.specs.Closing.{agree}
 use Rattle.meaning.proofs.Logic.{and-true-left, and-true-right, false-true}
 use Rattle.meaning.proofs.Lists.{below-wider, below-at, sameList-true}
 use Rattle.meaning.proofs.Entries.{length-entries, length-map, map-at}
 use Rattle.meaning.proofs.Cited.{Ready}
-use Rattle.meaning.proofs.Closing.{agree}
 use Rattle.grounding.specs.Draft.{countIn, Written, pushed}
 use Rattle.grounding.specs.Classes.{labelIn, State, same}
 use Rattle.grounding.specs.Rounds.{argued, congruentBy, congruence, united, pairedApart, paired, rowPassed, passed, rounds}

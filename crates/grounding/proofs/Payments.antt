@@ -11,7 +11,8 @@ use Prim.Native.Nat.{ℕ, zero, suc, _+_, _*_, _≤_, _<_}
 use native.Mathlib.Omega.{arith}
 use lib.Dec.{eqb, ltb}
 use borrow.Author.Tests.{eqb-true, eqb-false, eq-eqb, ne-eqb, ltb-true, ltb-false}
-use Rattle.meaning.proofs.Progress.{move, move-cases, total, total-le, total-lt}
+use Rattle.meaning.specs.Closing.{move, total}
+use Rattle.meaning.proofs.Progress.{move-cases, total-le, total-lt}
 use Rattle.grounding.specs.Classes.{labelIn, sizeIn}
 
 -- ---- sums

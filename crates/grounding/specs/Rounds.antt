@@ -18,7 +18,7 @@ use lib.ListN.{length, getD, set, take, drop, replicate}
 use Rattle.meaning.specs.Context.{Row, rowAt, leftAt, rightAt}
 use Rattle.meaning.specs.Values.{numberAt}
 use Rattle.meaning.specs.ByTable.{sameList}
-use Rattle.meaning.proofs.Closing.{agree}
+use Rattle.meaning.specs.Closing.{agree}
 use Rattle.grounding.specs.Draft.{countIn, Written, pushed}
 use Rattle.grounding.specs.Classes.{labelIn, State, upto, same, joined}
 

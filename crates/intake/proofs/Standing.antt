@@ -4,21 +4,20 @@
 --     stands-start, stands-taken, stands-fed    at the start, after one byte more, after some
 --     Parsed, parsed                      what it holds after the last byte
 -- Assumes nothing.
-use mathlib.Core.Bool.{Bool, true, false, _&&_}
-use mathlib.Core.List.{List, [], _∷_, _++_, map, append-assoc, append-nil}
+use mathlib.Core.Bool.{Bool, true, false}
+use mathlib.Core.List.{List, [], _∷_, _++_, append-assoc, append-nil}
 use mathlib.Core.Path.{_≡_, refl, ap, sym, _∙_, subst}
-use Prim.Native.Nat.{ℕ, zero, suc, _+_, _≤_, _<_}
+use Prim.Native.Nat.{ℕ, suc, _+_, _≤_, _<_}
 use native.Mathlib.Omega.{arith}
 use lib.Dec.{eqb, ltb}
 use borrow.Author.Tests.{eq-eqb, ne-eqb, eqb-true, eqb-false, lt-ltb, le-ltb, ltb-true, ltb-false}
 use lib.ListN.{length, drop, set, replicate, length-append}
 use lib.Seq.{drop-append-seam, drop-length}
-use Rattle.meaning.specs.Text.{Line, digit, linesFrom, linesOf}
+use Rattle.meaning.specs.Text.{Line, linesFrom, linesOf}
 use Rattle.meaning.specs.Grounds.{Conclusion}
-use Rattle.frames.specs.Choice.{choose}
 use Rattle.frames.proofs.Breaks.{from-cons, feed-ends}
-use Rattle.intake.specs.Parsing.{begins, textPart, textOf, groundLines, allDigits, goodLine, digitsOf, assigns, placeOf, placesOf, placesIn, formed, wordOf, wordsIn, concludes, conclusionOf, conclusionsIn}
-use Rattle.intake.specs.Machine.{grown, phaseAfter, endAfter, startAfter, headAfter, emptyLine, openLine, withHead, withByte, withPlaces, withConclusion, withStep, unended, noted, fresh, Memory, memory, afterStep, afterLine, taken, fed, finished}
+use Rattle.intake.specs.Parsing.{begins, textPart, textOf, groundLines, goodLine, digitsOf, assigns, placeOf, placesOf, placesIn, formed, wordOf, wordsIn, concludes, conclusionOf, conclusionsIn}
+use Rattle.intake.specs.Machine.{grown, phaseAfter, endAfter, startAfter, headAfter, openLine, withHead, withByte, withPlaces, withConclusion, withStep, unended, noted, fresh, Memory, memory, afterStep, afterLine, taken, fed, finished}
 use Rattle.intake.specs.declared.Head.{Head}
 use Rattle.intake.specs.declared.Buffer.{Buffer}
 use Rattle.intake.specs.declared.Parser.{Parser}

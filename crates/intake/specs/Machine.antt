@@ -12,7 +12,6 @@ use lib.Dec.{eqb, ltb, leb}
 use lib.ListN.{getD, set, replicate}
 use Rattle.meaning.specs.Text.{digit}
 use Rattle.frames.specs.Choice.{choose}
-use Rattle.verifier.specs.declared.Conclusions.{Conclusions}
 use Rattle.intake.specs.Parsing.{byteOf, twoOf, fourOf, placesOf, isConclusion, wordOf}
 use Rattle.intake.specs.declared.Head.{Head}
 use Rattle.intake.specs.declared.Buffer.{Buffer}

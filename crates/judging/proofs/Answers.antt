@@ -8,7 +8,7 @@ use mathlib.Core.Path.{_≡_, refl, ap, sym, _∙_, subst}
 use Prim.Native.Nat.{ℕ, suc}
 use native.Mathlib.Omega.{arith}
 use Rattle.meaning.specs.Context.{Context}
-use Rattle.meaning.specs.Rules.{Clause, Found, found, nothing}
+use Rattle.meaning.specs.Rules.{Clause, found, nothing}
 use Rattle.meaning.specs.Text.{Limits, narrow, Refusal, Read, Reading, faulty, taken, read}
 use Rattle.meaning.specs.Replies as M
 use Rattle.meaning.specs.Replies.{refusal, Replies, RepliesTo}

@@ -13,7 +13,7 @@ use Rattle.meaning.specs.Context.{Row, row₀, rowAt, Statement, same, differ, 
 use Rattle.meaning.specs.Equality.{repAt, Promise}
 use Rattle.meaning.specs.Rules.{Pattern, variable, apply, Clause}
 use Rattle.meaning.specs.Values.{pattern₀, patternAt}
-use Rattle.meaning.specs.Columns.{pad, countsOf, statementsFrom, contextFrom, argsIn}
+use Rattle.meaning.specs.Columns.{countsOf, statementsFrom, contextFrom, argsIn}
 use Rattle.meaning.specs.Text.{narrow, Read, taken, read}
 use Rattle.meaning.specs.ByTable.{clashOf}
 use Rattle.meaning.proofs.Lines.{Each}

@@ -21,6 +21,7 @@ use Rattle.meaning.specs.Text.{narrow, Read, faulty, taken, read}
 use Rattle.meaning.specs.Grounds.{Verified}
 use Rattle.meaning.specs.GroundColumns.{stepsFrom}
 use Rattle.meaning.proofs.Apartness.{clash-first, clash-clear}
+use Rattle.meaning.proofs.Built.{length-literals}
 use Rattle.ledger.specs.declared.ContextColumns.{ContextColumns}
 use Rattle.ledger.specs.declared.ClauseColumns.{ClauseColumns}
 use Rattle.ledger.specs.declared.Refusal.{Refusal}
@@ -35,8 +36,7 @@ use Rattle.closing.specs.declared.Contradiction.the-variants.{First, Clear}
 use Rattle.verifier.specs.Claims.{verdictOf}
 use Rattle.verifier.specs.declared.Answer.{Answer}
 use Rattle.verifier.specs.declared.Conclusions.{Conclusions}
-use Rattle.verifier.proofs.Owning.{length-literals}
-use Rattle.judging.specs.Judgements.{Judgement, judged, refused, Weighed, empty, clashes, weighs, Judges, faults, judges}
+use Rattle.judging.specs.Judgements.{refused, Weighed, empty, clashes, weighs, Judges, faults, judges}
 use Rattle.judging.specs.Claims.{said, asked, ClosedIn, Asks, judgementOf, concludedIn, WeighsTo, JudgesTo}
 use Rattle.judging.specs.declared.Outcome.{Outcome}
 use Rattle.judging.specs.declared.Outcome.the-variants as O

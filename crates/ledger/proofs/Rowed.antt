@@ -1,11 +1,11 @@
 -- The phase of the rows: a line of kind 1 adds a row or is refused, and any other line, or the end, ends the phase.
 --     row-stop, row-next         a row line that is refused; one that is stored
---     row-room, row-some         there is room where it is stored
+--     row-room                   there is room where it is stored
 --     rows-other, rows-end       the ways out of the phase
 --     line-fits                  one line more fits its number
 --     phase-at, phase-refused    a phase's promise, by where it ends
 -- Assumes nothing.
-use mathlib.Core.Bool.{Bool, true, false, _&&_}
+use mathlib.Core.Bool.{Bool}
 use mathlib.Core.List.{List, [], _∷_}
 use mathlib.Core.Path.{_≡_, refl, sym, ap, subst, _∙_}
 use Prim.Native.Nat.{ℕ, _+_, _-_, _*_, _<_, _≤_}

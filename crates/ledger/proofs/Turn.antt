@@ -1,5 +1,5 @@
 -- One line of a text: what it adds where no test fails, and the refusal where one does.
---     lineOf, testsAt, kindIn, entryIn   a legible line, its tests, its kind and what it adds
+--     lineOf, kindIn, entryIn, faultIn   a legible line, its kind, what it adds and the first test that it fails
 --     legible-line                       it is legible
 --     offsetFor                          the byte of it that a refusal names
 --     Stopped                            a refusal is the first test that fails, and its byte

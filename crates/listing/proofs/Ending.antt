@@ -12,9 +12,9 @@ use Rattle.meaning.specs.Equality.{repAt}
 use Rattle.meaning.specs.Rules.{Clause, Found}
 use Rattle.meaning.specs.Replies.{breach, replyOf, placesOf, printed}
 use Rattle.meaning.specs.Listing.{Goes}
+use Rattle.meaning.specs.Following.{widerBy}
 use Rattle.meaning.proofs.Listing.{goes-one}
 use Rattle.meaning.proofs.ListingNext.{everyBy, everyAfter, every-goes, after-goes}
-use Rattle.meaning.proofs.FollowingNumbers.{widerBy}
 use Rattle.ledger.specs.declared.ContextColumns.{ContextColumns}
 use Rattle.ledger.specs.declared.ClauseColumns.{ClauseColumns}
 use Rattle.finder.specs.Claims.{said, asked}

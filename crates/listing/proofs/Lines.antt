@@ -17,12 +17,13 @@ use Rattle.meaning.specs.Equality.{repAt}
 use Rattle.meaning.specs.Rules.{variables, Found, found, nothing, First, Before, Below, rangeOf}
 use Rattle.meaning.specs.Columns.{contextFrom}
 use Rattle.meaning.specs.Replies.{breach, none, printed, placesOf}
+use Rattle.meaning.specs.Following.{widerBy}
 use Rattle.meaning.proofs.Table.{length-terms}
 use Rattle.meaning.proofs.Lists.{below-wider}
 use Rattle.meaning.proofs.Pruned.{Sought}
 use Rattle.meaning.proofs.Finds.{starts-below}
 use Rattle.meaning.proofs.ListingNext.{first-sought, next-first}
-use Rattle.meaning.proofs.FollowingNumbers.{widerBy}
+use Rattle.meaning.proofs.Built.{length-rows}
 use Rattle.ledger.specs.declared.ContextColumns.{ContextColumns}
 use Rattle.ledger.specs.declared.ClauseColumns.{ClauseColumns}
 use Rattle.differing.specs.Knowing.{Knows}
@@ -36,7 +37,6 @@ use Rattle.finder.specs.Claims.{said, asked}
 use Rattle.normaliser.specs.Pieces.{low8}
 use Rattle.normaliser.specs.Prints.{Prints}
 use Rattle.normaliser.proofs.Stores.{sets-append}
-use Rattle.normaliser.proofs.Texts.{length-from}
 use Rattle.listing.specs.declared.Stage.the-variants.{Start, After, Done}
 use Rattle.listing.specs.declared.State.{State}
 use Rattle.listing.specs.declared.Entry.{Entry}
@@ -98,7 +98,7 @@ module _ (c : ContextColumns) (t : List ℕ) (k : ClauseColumns) where
 module _ (c : ContextColumns) (t : List ℕ) (k : ClauseColumns) (f : Fitted c k) where
   rows-few : length (rangeOf (said c)) ≤ 256
   unfolding contextFrom
-  rows-few = omega (arith, length-terms (said c .rows), length-from (c .symbols) (c .counts) (c .args) (c .rows), f .context .rows-few)
+  rows-few = omega (arith, length-terms (said c .rows), length-rows (c .symbols) (c .counts) (c .args) (c .rows), f .context .rows-few)
 
   sought-low : (a : List ℕ) → Sought (widerBy (said c)) (said c .rows) (repAt t) 65536 (asked k) a → Below 256 a
   sought-low a w = below-wider (length (rangeOf (said c))) 256 a rows-few (starts-below (said c) (repAt t) a (w .1))

@@ -4,27 +4,27 @@
 --     list-pieces                 over a table of representatives, where the context does not contradict itself: the lines of the list
 --     text-pieces                 over the columns of a text that the finder answers: what the program has to print
 -- Assumes nothing.
-use mathlib.Core.List.{List, [], _∷_}
-use mathlib.Core.Path.{_≡_, refl, sym, ap, subst, subst₂, _∙_}
-use Prim.Native.Nat.{ℕ, zero, suc, _≤_}
+use mathlib.Core.List.{List}
+use mathlib.Core.Path.{_≡_, sym, ap, subst, subst₂, _∙_}
+use Prim.Native.Nat.{ℕ, suc, _≤_}
 use native.Mathlib.Omega.{arith}
-use lib.ListN.{length, getD, length-append}
+use lib.ListN.{length}
 use Rattle.meaning.specs.Context.{Context}
 use Rattle.meaning.specs.Equality.{repAt, Consistent, Representatives}
 use Rattle.meaning.specs.Rules.{Clause, Found}
 use Rattle.meaning.specs.Formed.{Formed, NamesAll}
-use Rattle.meaning.specs.Columns.{argsAt, contextFrom, patternOf, patternsFrom, literalsFrom, clauseFrom}
+use Rattle.meaning.specs.Columns.{contextFrom, literalsFrom, clauseFrom}
 use Rattle.meaning.specs.Text.{narrow, Read, taken, read}
 use Rattle.meaning.specs.Replies.{breach, replyOf, placesOf, inputLimit, Replies}
 use Rattle.meaning.specs.Listing.{Lists, Goes, linesOf, listed, lists, printedListing, BreachesPrints, replies}
+use Rattle.meaning.specs.Following.{widerBy}
 use Rattle.meaning.proofs.ListingNext.{everyBy, every-goes, every-lists}
 use Rattle.meaning.proofs.ListingPrints.{lists-one}
-use Rattle.meaning.proofs.FollowingNumbers.{widerBy}
+use Rattle.meaning.proofs.Built.{length-rows, length-patterns}
 use Rattle.ledger.specs.declared.ContextColumns.{ContextColumns}
 use Rattle.ledger.specs.declared.ClauseColumns.{ClauseColumns}
 use Rattle.search.specs.Finding.{foundBy}
 use Rattle.finder.specs.Claims.{said, asked}
-use Rattle.normaliser.proofs.Texts.{length-from}
 use Rattle.listing.specs.Filling.{Fitted, startState, Pieces}
 use Rattle.listing.proofs.Pieces.{onward, placed-front, start-comes, pieces-lines, pieces-end}
 
@@ -46,12 +46,6 @@ module _ (c : ContextColumns) (t : List ℕ) (k : ClauseColumns) where
 
 -- ---- over a table of representatives
 
-length-patterns : (kinds heads counts args : List ℕ) (n : ℕ) → length (patternsFrom kinds heads counts args n) ≡ n
-unfolding patternsFrom
-length-patterns kinds heads counts args zero = refl
-length-patterns kinds heads counts args (suc n) =
-    omega (arith, length-append (patternsFrom kinds heads counts args n) (patternOf (getD kinds n 0) (getD heads n 0) (argsAt counts args n) ∷ []), length-patterns kinds heads counts args n)
-
 pub fitted-formed : (c : ContextColumns) (k : ClauseColumns) → Fitted c k → Formed (said c) (asked k)
 unfolding clauseFrom
 fitted-formed c k f =
@@ -69,7 +63,7 @@ module _ (c : ContextColumns) (t : List ℕ) (k : ClauseColumns) (fitted : Fitte
   unfolding contextFrom
   sought-lists =
       every-lists (said c) (asked k) (fitted-formed c k fitted) free (repAt t) represents 65536
-      (omega (arith, length-from (c .symbols) (c .counts) (c .args) (c .rows), fitted .context .rows-few))
+      (omega (arith, length-rows (c .symbols) (c .counts) (c .args) (c .rows), fitted .context .rows-few))
 
   pub list-pieces : (l : List (List ℕ)) → Lists (said c) (asked k) l → (room : ℕ → ℕ) (i : ℕ) (out : List ℕ) → Pieces c t k room i startState out → out ≡ linesOf l
   list-pieces l p room i out q =

@@ -17,8 +17,9 @@ use Rattle.meaning.specs.Equality.{EqualIn, ApartIn, Lowest, Representat
 use Rattle.meaning.specs.Writing.{joins, lowerFirst, normalOf, contextText}
 use Rattle.meaning.specs.Demands.{Alike}
 use Rattle.meaning.specs.Formed.{Fit}
+use Rattle.meaning.specs.Members.{In}
 use Rattle.meaning.proofs.Promised.{representatives-same}
-use Rattle.meaning.proofs.Sorted.{In, sorted-ascending, ascending-one}
+use Rattle.meaning.proofs.Sorted.{sorted-ascending, ascending-one}
 use Rattle.meaning.proofs.Joins.{partsOf}
 use Rattle.meaning.proofs.Pairs.{EqualRows, ApartRows, Sides, Parted, apart-parted, parted-apart, within-in}
 use Rattle.meaning.proofs.Normals.{Inside, Source, Turned, lower-cases, rep-settled, parts-in, in-parts, parts-parted, normal-equal, normal-apart}

@@ -22,6 +22,7 @@ use Rattle.meaning.specs.Replies.{Judged, empty, clashes, answers, Repli
 use Rattle.meaning.specs.Formed.{Formed, Fit}
 use Rattle.meaning.specs.ByTable.{first, clashOf, Clashing, clear}
 use Rattle.meaning.specs.FirstBy.{firstBy}
+use Rattle.meaning.specs.Following.{widerBy}
 use Rattle.meaning.proofs.Promised.{closing-represents}
 use Rattle.meaning.proofs.Apartness.{clash-first, clash-clear, first-clash-one}
 use Rattle.meaning.proofs.Finds.{answers-one}
@@ -29,7 +30,6 @@ use Rattle.meaning.proofs.Taken.{read-formed}
 use Rattle.meaning.proofs.Agreement.{normal-one}
 use Rattle.meaning.proofs.Computed.{verdict, judge, repOf, replyTo, replyOn, settled, normalise, leave, normalOn}
 use Rattle.meaning.proofs.Computes.{computed-first}
-use Rattle.meaning.proofs.FollowingNumbers.{widerBy}
 
 -- by any table of representatives, and with the numbers outside from any offset that is no row
 module _ (c : Context) (k : Clause) (formed : Formed c k) (rep : ℕ → ℕ) (represents : Representatives c rep) (offset : ℕ) (high : length (c .rows) ≤ offset) where

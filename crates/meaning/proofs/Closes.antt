@@ -14,12 +14,12 @@ use Rattle.meaning.specs.Equality.{repAt, Equal, transitive, symmetric, 
 use Rattle.meaning.specs.Rules.{Below}
 use Rattle.meaning.specs.Formed.{Ordered, Within}
 use Rattle.meaning.specs.ByTable.{sameList}
+use Rattle.meaning.specs.Closing.{move, Sofar, total, count, upto, unite, agree, uniteIf, round, rowsPass, rowPass, statedPass, rounds, close}
 use Rattle.meaning.proofs.Logic.{and-true-left, and-true-right}
 use Rattle.meaning.proofs.Lists.{below-wider, sameList-true, sameList-self}
 use Rattle.meaning.proofs.Table.{term-at}
 use Rattle.meaning.proofs.Model.{Closed}
-use Rattle.meaning.proofs.Progress.{move, move-cases, Sofar, total, merge-keeps, merge-falls}
-use Rattle.meaning.proofs.Closing.{count, upto, unite, agree, uniteIf, round, rowsPass, rowPass, statedPass, rounds, close}
+use Rattle.meaning.proofs.Progress.{move-cases, merge-keeps, merge-falls}
 
 -- ---- lists
 
@@ -260,9 +260,6 @@ module _ (rows : List Row) (eqs : List (ℕ × ℕ)) where
       close-long = close-done .0 .0
 
       -- ---- for a loop of rounds: what holds at its head, and what a round does there
-      pub going-start : Going rows eqs (count (length rows) 0)
-      going-start = record { long = start-good .0; so = start-good .1 }
-
       good-of : {l : List ℕ} → Going rows eqs l → Good l
       good-of g = (g .long, g .so)
 

@@ -15,8 +15,8 @@ use Rattle.meaning.specs.Writing.{contextText, normalOf}
 use Rattle.meaning.specs.Replies.{refusal, Reply, refused, replyOf, Normalised, normal, abnormal, Written, wrote, unwritten}
 use Rattle.meaning.specs.ByTable.{Clashing, first, clear, clashOf}
 use Rattle.meaning.specs.FirstBy.{firstBy}
-use Rattle.meaning.proofs.Closing.{close}
-use Rattle.meaning.proofs.FollowingNumbers.{widerBy}
+use Rattle.meaning.specs.Closing.{close}
+use Rattle.meaning.specs.Following.{widerBy}
 
 abbrev pub repOf : Context → ℕ → ℕ
 repOf c = repAt (close (c .rows) (equations c))

@@ -11,13 +11,14 @@ use Rattle.meaning.specs.Equality.{Consistent, Representatives}
 use Rattle.meaning.specs.Rules.{Clause, choice, rangeOf, variables, Answers}
 use Rattle.meaning.specs.Formed.{Formed}
 use Rattle.meaning.specs.FirstBy.{breaks, firstBy}
+use Rattle.meaning.specs.Following.{widerBy}
 use Rattle.meaning.proofs.Model.{Closed}
 use Rattle.meaning.proofs.Promised.{representatives-closed}
 use Rattle.meaning.proofs.Box.{mem-below, mem-all, Mem}
 use Rattle.meaning.proofs.Numbered.{all-hold-numbers, Means, means-choice}
 use Rattle.meaning.proofs.Seek.{starts, lowest-below, lowest-self}
 use Rattle.meaning.proofs.Finds.{RightTest, first-breach}
-use Rattle.meaning.proofs.FollowingNumbers.{widerBy, wider-instances}
+use Rattle.meaning.proofs.FollowingNumbers.{wider-instances}
 
 module _ (c : Context) (k : Clause) (formed : Formed c k) (free : Consistent c) (rep : ℕ → ℕ) (represents : Representatives c rep) (offset : ℕ)
     (fits : length (c .rows) ≤ offset) where

@@ -19,15 +19,13 @@ use Rattle.meaning.specs.Replies.{Replies, Writes, Reply, replies, refus
 use Rattle.meaning.specs.Formed.{Fit}
 use Rattle.meaning.specs.ByTable.{sameList, clashOf, clashFrom}
 use Rattle.meaning.specs.Values.{numbers, number, stages, step, numberOf, met, isOver, held, rowsAt, levels, levelsFrom, levelOf, highest}
-use Rattle.meaning.specs.Following.{followsBy}
+use Rattle.meaning.specs.Following.{followsBy, widerBy}
 use Rattle.meaning.specs.FirstBy.{firstBy, seek, tryAll, orElse, lowest, breaks, allHoldBy, holdsBy}
 use Rattle.meaning.specs.Sheet.{sheet, bytes}
 use Rattle.meaning.specs.Demands.{Alike, Finder, Normaliser, RefusesRightly, FindsFirst, LeavesRightly, Gives, KeepsMeaning, Tells}
-use Rattle.meaning.proofs.Progress.{move, total}
-use Rattle.meaning.proofs.Closing.{agree, close, rounds, round, rowsPass, rowPass, statedPass, upto, unite, uniteIf, count}
+use Rattle.meaning.specs.Closing.{move, total, agree, close, rounds, round, rowsPass, rowPass, statedPass, upto, unite, uniteIf, count}
 use Rattle.meaning.proofs.Promised.{model-rows, closing-represents}
 use Rattle.meaning.proofs.Taken.{read-formed}
-use Rattle.meaning.proofs.FollowingNumbers.{widerBy}
 use Rattle.meaning.proofs.Computed.{leave, normalise, replyTo, repOf, normalOn, settled, verdict, replyOn, judge}
 use Rattle.meaning.proofs.Demanded.{keeps-meaning}
 use Rattle.meaning.proofs.Answered.{replies-one, writes-one, normalise-writes, replyTo-replies}

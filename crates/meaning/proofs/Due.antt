@@ -1,5 +1,4 @@
 -- It is enough to try a literal once, at the choice of its last variable.
---     due            whether k is the higher level of a literal's two sides
 --     deadNow        a literal that is due at a choice fails
 --     due-search     a search that tries only the literals that are due gives what a search gives that tries all that are ready
 --     due-first      with any pruning that keeps its promise it gives what the plain search gives
@@ -18,17 +17,14 @@ use Rattle.meaning.specs.Rules.{Pattern, Literal, Clause, variables}
 use Rattle.meaning.specs.Formed.{leftOf, rightOf}
 use Rattle.meaning.specs.Values.{levels, stages}
 use Rattle.meaning.specs.FirstBy.{holdsBy, firstBy}
+use Rattle.meaning.specs.Pruning.{fails, due}
 use Rattle.meaning.proofs.Logic.{bool-same, false-true, and-both, and-none, and-true-left, and-true-right, or-cases, or-left, or-right, or-none}
 use Rattle.meaning.proofs.Lists.{length-snoc}
 use Rattle.meaning.proofs.Box.{Box}
 use Rattle.meaning.proofs.Search.{search, search-same, Prunes}
 use Rattle.meaning.proofs.Seek.{starts}
 use Rattle.meaning.proofs.Prefix.{ready, holds-stages}
-use Rattle.meaning.proofs.Pruned.{fails, startBox, Sought, dead, pruned-first}
-
--- the last of the literal's variables is the k-th
-unfoldable pub due : ℕ → List ℕ → Literal → Bool
-due k ls l = eqb (max (getD ls (leftOf l) 0) (getD ls (rightOf l) 0)) k
+use Rattle.meaning.proofs.Pruned.{startBox, Sought, dead, pruned-first}
 
 ready-levels : (k : ℕ) (ls : List ℕ) (l : Literal) → ready k ls l ≡ true → (getD ls (leftOf l) 0 ≤ k) × (getD ls (rightOf l) 0 ≤ k)
 unfolding ready

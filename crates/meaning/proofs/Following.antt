@@ -5,12 +5,11 @@
 --     wider-self                             a term differs from itself just where there is a clash
 --     wider-symmetric, wider-respects        it turns round, and goes with equality
 --     wider-over                             where what is equal, and what is kept apart, is so in another context, what differs does too
---     equations-with, differences-with       what a context with one equation more states
 --     with-fit, with-adding                  such a context is well-formed, and makes equal what the added equation does
 --     wider-rows                             two rows differ just where the context with their equation contradicts itself
 -- Assumes nothing.
 use mathlib.Core.List.{_∷_}
-use mathlib.Core.Path.{_≡_, refl, subst₂, sym}
+use mathlib.Core.Path.{refl, subst₂, sym}
 use mathlib.Core.Logic.{inl, ⊎-elim, _↔_}
 use Prim.Native.Nat.{ℕ, zero, suc, _<_}
 use native.Mathlib.Omega.{arith}
@@ -104,14 +103,6 @@ wider-over c d equals aparts t u w = (
     a = aparts left right (w .0, w .1, inl (reflexive, reflexive))
 
 -- ---- two rows, and the context that states their equation
-
-pub equations-with : (c : Context) (i j : ℕ) → equations (withEquation c i j) ≡ ((i, j) ∷ equations c)
-unfolding equationsOf
-equations-with c i j = refl
-
-pub differences-with : (c : Context) (i j : ℕ) → differences (withEquation c i j) ≡ differences c
-unfolding differencesOf
-differences-with c i j = refl
 
 pub with-fit : (c : Context) → Fit c → (i j : ℕ) → i < length (c .rows) → j < length (c .rows) → Fit (withEquation c i j)
 unfolding equationsOf differencesOf

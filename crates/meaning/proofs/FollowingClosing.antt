@@ -19,9 +19,9 @@ use Rattle.meaning.specs.Context.{Row, Term, rowAt, termAt, Context, equ
 use Rattle.meaning.specs.Equality.{Equal, Representatives, Promise, repAt, given}
 use Rattle.meaning.specs.Formed.{Ordered, Within, Fit}
 use Rattle.meaning.specs.Following.{withEquation}
+use Rattle.meaning.specs.Closing.{Sofar, move, total, round, rounds, close}
 use Rattle.meaning.proofs.Model.{Closed}
-use Rattle.meaning.proofs.Progress.{Sofar, move, total, merge-keeps}
-use Rattle.meaning.proofs.Closing.{round, rounds, close}
+use Rattle.meaning.proofs.Progress.{merge-keeps}
 use Rattle.meaning.proofs.Closes.{Going, sum, going-on, going-ends}
 use Rattle.meaning.proofs.Promised.{representatives-one, representatives-closed, closed-representatives, closing-represents}
 use Rattle.meaning.proofs.Pairs.{same-mono}

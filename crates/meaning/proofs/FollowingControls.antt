@@ -18,15 +18,14 @@ use Rattle.meaning.specs.Text.{Read, Reading, faulty, taken, rowsOf, rea
 use Rattle.meaning.specs.Replies.{Reply, breach, none, refused, Replies}
 use Rattle.meaning.specs.ByTable.{sameList, clashOf, clashFrom}
 use Rattle.meaning.specs.Values.{numbers, number, stages, step, numberOf, met, isOver, held, rowsAt, levels, levelsFrom, levelOf, highest}
-use Rattle.meaning.specs.Following.{followsBy}
+use Rattle.meaning.specs.Following.{followsBy, widerBy}
 use Rattle.meaning.specs.FirstBy.{firstBy, seek, tryAll, orElse, lowest, breaks, allHoldBy, holdsBy}
 use Rattle.meaning.specs.Sheet.{bytes, further}
 use Rattle.meaning.specs.Demands.{Finder, FindsFirst}
+use Rattle.meaning.specs.Closing.{move, total, close, agree, rounds, round, rowsPass, rowPass, statedPass, upto, unite, uniteIf, count}
 use Rattle.meaning.proofs.Logic.{and-true-left, and-true-right, false-true}
-use Rattle.meaning.proofs.Progress.{move, total}
-use Rattle.meaning.proofs.Closing.{close, agree, rounds, round, rowsPass, rowPass, statedPass, upto, unite, uniteIf, count}
 use Rattle.meaning.proofs.Taken.{read-formed}
-use Rattle.meaning.proofs.FollowingNumbers.{widerBy, widerBy-inside, widerBy-rows}
+use Rattle.meaning.proofs.FollowingNumbers.{widerBy-inside, widerBy-rows}
 use Rattle.meaning.proofs.Computed.{repOf, verdict}
 use Rattle.meaning.proofs.Sheet.{further-shown}
 

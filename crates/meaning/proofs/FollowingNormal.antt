@@ -18,9 +18,8 @@ use Rattle.meaning.specs.Formed.{Fit}
 use Rattle.meaning.specs.ByTable.{sameList, clashOf, clashFrom, apartBy}
 use Rattle.meaning.specs.Sheet.{bytes}
 use Rattle.meaning.specs.Demands.{Alike, Normaliser, Gives, KeepsMeaning, Tells}
+use Rattle.meaning.specs.Closing.{move, total, close, agree, rounds, round, rowsPass, rowPass, statedPass, upto, unite, uniteIf, count}
 use Rattle.meaning.proofs.Logic.{false-true}
-use Rattle.meaning.proofs.Progress.{move, total}
-use Rattle.meaning.proofs.Closing.{close, agree, rounds, round, rowsPass, rowPass, statedPass, upto, unite, uniteIf, count}
 use Rattle.meaning.proofs.Promised.{closing-represents}
 use Rattle.meaning.proofs.Apartness.{clash-clear, apart-rows}
 use Rattle.meaning.proofs.Taken.{read-formed}

@@ -1,6 +1,5 @@
 -- Differences that follow, as a test of two numbers: a class below the number of rows, and from there on a term outside the table, which differs from
 -- nothing.
---     widerBy                         the test, by a closing from own numbers
 --     widerBy-rows, widerBy-table     it decides of rows, and any closing with their equation tells it
 --     widerBy-inside, widerBy-outside what it says yes to are rows, and it says no of a number that is no row
 --     widerBy-symmetric, widerBy-rep  it turns round, and asks of representatives as of rows
@@ -24,11 +23,11 @@ use Rattle.meaning.specs.Rules.{Pattern, variables, instances, Differ}
 use Rattle.meaning.specs.Formed.{Fit, AllPlaced}
 use Rattle.meaning.specs.ByTable.{apartBy}
 use Rattle.meaning.specs.Values.{numberAt, numbers, stages}
-use Rattle.meaning.specs.Following.{withEquation, followsBy, occursBy}
+use Rattle.meaning.specs.Following.{withEquation, followsBy, occursBy, widerBy}
+use Rattle.meaning.specs.Closing.{close}
 use Rattle.meaning.proofs.Logic.{and-true-left, and-true-right, false-true, bool-same}
 use Rattle.meaning.proofs.Model.{Closed, Val, atRow, eval, reify}
 use Rattle.meaning.proofs.Meaning.{named}
-use Rattle.meaning.proofs.Closing.{close}
 use Rattle.meaning.proofs.Promised.{closing-represents}
 use Rattle.meaning.proofs.Prefix.{levels-most}
 use Rattle.meaning.proofs.Levels.{stages-read}
@@ -38,10 +37,6 @@ use Rattle.meaning.proofs.FollowingOutside.{Outside, outside-wider}
 use Rattle.meaning.proofs.FollowingTable.{wider-decided, stated-apart, unused-wider}
 
 -- ---- the test
-
-unfoldable pub widerBy : Context → ℕ → ℕ → Bool
-widerBy c n m =
-    (ltb n (length (c .rows)) && ltb m (length (c .rows))) && followsBy (repAt (close (c .rows) ((n, m) ∷ equations c))) (differences c)
 
 pub widerBy-inside : (c : Context) (n m : ℕ) → widerBy c n m ≡ true → (n < length (c .rows)) × (m < length (c .rows))
 unfolding widerBy

@@ -16,10 +16,10 @@ use Rattle.meaning.specs.Context.{Row, Term, Terms, node, stop, more, te
 use Rattle.meaning.specs.Equality.{EqualIn, Equal, Same, Adding, stated, added, EqualAdding, Consistent, repAt, given, symmetric}
 use Rattle.meaning.specs.Rules.{Differ}
 use Rattle.meaning.specs.Formed.{Ordered, Within, Fit}
+use Rattle.meaning.specs.Closing.{close}
 use Rattle.meaning.proofs.Model.{Closed, Val, Vals, Val-discrete, atRow, app, vstop, vmore, rowVals, settle, eval, evals, reify}
 use Rattle.meaning.proofs.Meaning.{Answer, answer, eval-row, named, meaning-rows}
 use Rattle.meaning.proofs.Least.{Each, least}
-use Rattle.meaning.proofs.Closing.{close}
 use Rattle.meaning.proofs.Closes.{close-closed}
 use Rattle.meaning.proofs.Following.{adding-by, wider-symmetric}
 

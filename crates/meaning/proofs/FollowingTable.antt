@@ -22,9 +22,10 @@ use Rattle.meaning.specs.Rules.{Differ}
 use Rattle.meaning.specs.Formed.{Fit}
 use Rattle.meaning.specs.ByTable.{first, clear, clashOf, apartBy}
 use Rattle.meaning.specs.Following.{withEquation, followsBy, amongBy, argumentBy, sideBy, occursBy}
+use Rattle.meaning.specs.Closing.{Sofar, move}
 use Rattle.meaning.proofs.Logic.{or-cases, or-left, or-right, or-none}
 use Rattle.meaning.proofs.Model.{Closed}
-use Rattle.meaning.proofs.Progress.{Sofar, move, move-cases}
+use Rattle.meaning.proofs.Progress.{move-cases}
 use Rattle.meaning.proofs.Promised.{representatives-closed, closed-representatives, model-rows}
 use Rattle.meaning.proofs.Apartness.{Hits, Told, clash-told, apart-rows}
 use Rattle.meaning.proofs.Following.{apart-wider, consistent-wider, wider-symmetric, with-fit, wider-rows}

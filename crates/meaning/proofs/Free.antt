@@ -1,20 +1,18 @@
 -- A variable that no literal reaches may take its first row alone: for each breach there is then one that is no later.
---     touches        whether each pattern row has a variable in its term
 --     untouched      a row's instance rests on no variable that its term has not
---     free           whether no side of any literal has the variable
 --     free-breach    the pruning that gives such a variable its first open row keeps its promise for the breaches made of representatives
 -- Assumes nothing.
-use mathlib.Core.Bool.{Bool, true, false, not, _&&_, _||_}
+use mathlib.Core.Bool.{Bool, true, false, not, _||_}
 use mathlib.Core.List.{List, [], _∷_, _++_}
 use mathlib.Core.Path.{_≡_, refl, ap, ap₂}
 use Prim.Native.Nat.{ℕ, zero, suc}
 use native.Mathlib.Omega.{arith}
-use lib.Dec.{eqb}
 use borrow.Author.Tests.{eqb-false, not-true}
 use lib.ListN.{length, getD, length-append}
 use Rattle.meaning.specs.Context.{Context, Term, node, more, term₀, pick}
 use Rattle.meaning.specs.Rules.{Pattern, variable, apply, Literal, equal, unequal, Clause, instance, fill, instances, Holds, AllHold, rangeOf, choice}
 use Rattle.meaning.specs.Formed.{leftOf, rightOf}
+use Rattle.meaning.specs.Pruning.{anyOf, touch, touchesFrom, touches, noneTouch, free}
 use Rattle.meaning.proofs.Logic.{and-true-left, and-true-right, or-none}
 use Rattle.meaning.proofs.Box.{Mem, AllIn}
 use Rattle.meaning.proofs.Search.{Prunes}
@@ -23,21 +21,6 @@ use Rattle.meaning.proofs.Seek.{starts}
 use Rattle.meaning.proofs.Finds.{LowBreach, starts-below}
 
 -- ---- the rows that have a variable in their terms
-
-unfoldable pub anyOf : List Bool → List ℕ → Bool
-anyOf bs [] = false
-anyOf bs (a ∷ l) = getD bs a false || anyOf bs l
-
-unfoldable pub touch : ℕ → List Bool → Pattern → Bool
-touch v bs (variable w) = eqb w v
-touch v bs (apply f l) = anyOf bs l
-
-unfoldable pub touchesFrom : ℕ → List Bool → List Pattern → List Bool
-touchesFrom v bs [] = bs
-touchesFrom v bs (p ∷ ps) = touchesFrom v (bs ++ (touch v bs p ∷ [])) ps
-
-unfoldable pub touches : ℕ → List Pattern → List Bool
-touches v ps = touchesFrom v [] ps
 
 -- two lists of terms are the same at the places that are not marked
 data Agree : List Bool → List Term → List Term → Type 0 where
@@ -75,13 +58,6 @@ module _ (v : ℕ) (chosen other : List Term) (same : (w : ℕ) → (w ≡ v →
   untouched ps p e = agree-at (agree-fill agree-stop ps) p e
 
 -- ---- the variables that no literal reaches
-
-unfoldable pub noneTouch : List Bool → List Literal → Bool
-noneTouch bs [] = true
-noneTouch bs (l ∷ ls) = not (getD bs (leftOf l) false || getD bs (rightOf l) false) && noneTouch bs ls
-
-unfoldable pub free : Clause → ℕ → Bool
-free k v = noneTouch (touches v (k .patterns)) (k .literals)
 
 holds-same : (c : Context) (ts us : List Term) (l : Literal) → getD us (leftOf l) term₀ ≡ getD ts (leftOf l) term₀ → getD us (rightOf l) term₀ ≡ getD ts (rightOf l) term₀
     → Holds c ts l → Holds c us l

@@ -16,10 +16,10 @@ use Rattle.meaning.specs.ByTable.{sameList}
 use Rattle.meaning.specs.Grounds.{Ref, Step, Conclusion, conclusionFor, Verdict, accepted, bad, unconcluded, Verified}
 use Rattle.meaning.specs.Checking.{entryOf, entries, keyOf, keysOf, sameKey, numbered, alike, numberLike, numbersTo, numbersOf, numberBelow, sideOf, counts, isUnequal, ownerBy, sidesBy, usedBy, citedBy, pairedBy, metBy, eachBy, congruentBy, addsBy, addedBy, derivesBy, followsBy, differsBySteps, concludesBy, firstFalse, assignedBy, choose, concludedBy, verdictBy}
 use Rattle.meaning.specs.Following as F
+use Rattle.meaning.specs.Closing.{move, total, close, agree, rounds, round, rowsPass, rowPass, statedPass, upto, unite, uniteIf, count}
+use Rattle.meaning.specs.Following.{widerBy}
 use Rattle.meaning.proofs.Logic.{false-true}
-use Rattle.meaning.proofs.Progress.{move, total}
-use Rattle.meaning.proofs.Closing.{close, agree, rounds, round, rowsPass, rowPass, statedPass, upto, unite, uniteIf, count}
-use Rattle.meaning.proofs.FollowingNumbers.{widerBy, widerBy-rows}
+use Rattle.meaning.proofs.FollowingNumbers.{widerBy-rows}
 use Rattle.meaning.proofs.Grounded.{verdict-one}
 use Rattle.meaning.proofs.Verdicts.{verdictBy-verified}
 

@@ -20,7 +20,7 @@ use lib.Seq.{getD-take, length-take-le}
 use Rattle.meaning.specs.Context.{Term, Terms, term₀, Context, equations, differences}
 use Rattle.meaning.specs.Equality.{Same, Sames, EqualIn, EqualAdding, stated, added, Stated, given, reflexive, symmetric, transitive, congruent, same-stop, same-more}
 use Rattle.meaning.specs.Rules.{Pattern, variable, apply, variables, instance, fill, instances, choice, rangeOf, Below, Literal, equal, unequal, Clause, Holds, AllHold, Breach}
-use Rattle.meaning.specs.Grounds.{Ref, Step, Conclusion, stepAt, literalAt, PairAt, instancesOf, instanceAt, Stands, for-row, for-instance, UnequalAt, Cites, CitesEach, each-stop, each-more, Derives, by-statement, by-reflexivity, by-symmetry, by-transitivity, by-congruence, by-addition, Follows, ShowsDiffer, Concludes, conclusionFor, Verdict, Each, FirstNot, Assigned, FollowsAt, ConcludedAt, Verified, accepted, unassigned, bad, unconcluded, accepts, unassigns, refuses, leaves-open}
+use Rattle.meaning.specs.Grounds.{Ref, Step, Conclusion, stepAt, literalAt, PairAt, instancesOf, instanceAt, Stands, for-row, for-instance, UnequalAt, Cites, CitesEach, each-stop, each-more, Derives, by-statement, by-reflexivity, by-symmetry, by-transitivity, by-congruence, by-addition, Follows, Concludes, conclusionFor, Verdict, Each, FirstNot, Assigned, FollowsAt, ConcludedAt, Verified, accepted, unassigned, bad, unconcluded, accepts, unassigns, refuses, leaves-open}
 use Rattle.meaning.proofs.Table.{length-terms}
 use Rattle.meaning.proofs.Pairs.{same-mono}
 

@@ -16,8 +16,8 @@ use borrow.Author.Tests.{eqb-true, eqb-false}
 use lib.ListN.{length}
 use Rattle.meaning.specs.Context.{Context, Statement, same, differ, equationsOf, differencesOf, equations, differences}
 use Rattle.meaning.specs.Writing.{joins, sorted, lowerFirst, normalOf}
+use Rattle.meaning.specs.Members.{In}
 use Rattle.meaning.proofs.Taken.{equations-append, differences-append}
-use Rattle.meaning.proofs.Sorted.{In}
 
 differ-equations : (l : List (ℕ × ℕ)) → equationsOf (map (λ p. differ (p .0) (p .1)) l) ≡ []
 unfolding equationsOf

@@ -7,7 +7,6 @@ pub mod Table
 pub mod Model
 pub mod Meaning
 pub mod Progress
-pub mod Closing
 pub mod Closes
 pub mod Promised
 pub mod Least
@@ -35,6 +34,7 @@ pub mod Bounds
 pub mod Constants
 pub mod ReadBack
 pub mod ClauseLines
+pub mod Built
 pub mod Padded
 pub mod Sorted
 pub mod Joins

@@ -24,6 +24,7 @@ use Rattle.meaning.specs.Formed.{Formed}
 use Rattle.meaning.specs.FirstBy.{breaks, firstBy}
 use Rattle.meaning.specs.Next.{earlier, nextBy}
 use Rattle.meaning.specs.Listing.{OwnRows, OwnBreach, Enumerates, Lists, Goes}
+use Rattle.meaning.specs.Following.{widerBy}
 use Rattle.meaning.proofs.Logic.{false-true, and-both, and-true-left, and-true-right}
 use Rattle.meaning.proofs.Order.{same-first}
 use Rattle.meaning.proofs.Box.{Box, Mem, mem-below, AllIn, Above, above-mem, Rising, Inside, Open, open-split, open-none, open-leaf, open-replicate}
@@ -32,7 +33,6 @@ use Rattle.meaning.proofs.Pruned.{Sought}
 use Rattle.meaning.proofs.Promised.{representatives-closed}
 use Rattle.meaning.proofs.Finds.{LowBreach, low-sought}
 use Rattle.meaning.proofs.Computes.{numbers-right}
-use Rattle.meaning.proofs.FollowingNumbers.{widerBy}
 use Rattle.meaning.proofs.Listing.{enumerates-same, enumerates-split, Nexts, nexts-after, enumerates-goes, goes-enumerates}
 
 -- ---- the order, as a test

@@ -15,9 +15,9 @@ use Rattle.meaning.specs.Text.{narrow, Limits, Refusal, Read, Reading, f
 use Rattle.meaning.specs.Replies.{Reply, breach, none, refused, replyOf, Replies, RepliesTo}
 use Rattle.meaning.specs.Formed.{Formed}
 use Rattle.meaning.specs.Listing.{OwnBreach, Lists, Listing, listed, unlisted, ListingTo, refuses, lists, printedListing, BreachesPrints, long, replies}
+use Rattle.meaning.specs.Following.{widerBy}
 use Rattle.meaning.proofs.Promised.{closing-represents}
 use Rattle.meaning.proofs.Taken.{read-formed}
-use Rattle.meaning.proofs.FollowingNumbers.{widerBy}
 use Rattle.meaning.proofs.Computed.{judge, repOf, replyOn, replyTo}
 use Rattle.meaning.proofs.Answered.{replyTo-replies, replies-one, judged-consistent}
 use Rattle.meaning.proofs.Listing.{enumerates-one}

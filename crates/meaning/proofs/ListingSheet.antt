@@ -17,16 +17,14 @@ use Rattle.meaning.specs.Writing.{digitOf, hex, frame}
 use Rattle.meaning.specs.Replies.{codeOf, valuesOf, printed, inputLimit}
 use Rattle.meaning.specs.ByTable.{sameList, clashOf, clashFrom}
 use Rattle.meaning.specs.Values.{numbers, number, stages, step, numberOf, met, isOver, held, rowsAt, levels, levelsFrom, levelOf, highest}
-use Rattle.meaning.specs.Following.{followsBy}
+use Rattle.meaning.specs.Following.{followsBy, widerBy}
 use Rattle.meaning.specs.FirstBy.{firstBy, seek, tryAll, orElse, lowest, breaks, allHoldBy, holdsBy}
 use Rattle.meaning.specs.Listing as L
 use Rattle.meaning.specs.Listing.{printedListing, BreachesPrints, replies}
 use Rattle.meaning.specs.Sheet.{bytes}
+use Rattle.meaning.specs.Closing.{move, total, close, agree, rounds, round, rowsPass, rowPass, statedPass, upto, unite, uniteIf, count}
 use Rattle.meaning.proofs.Logic.{false-true, and-true-left, and-true-right}
 use Rattle.meaning.proofs.Lists.{sameList-true, sameList-self}
-use Rattle.meaning.proofs.Progress.{move, total}
-use Rattle.meaning.proofs.Closing.{close, agree, rounds, round, rowsPass, rowPass, statedPass, upto, unite, uniteIf, count}
-use Rattle.meaning.proofs.FollowingNumbers.{widerBy}
 use Rattle.meaning.proofs.Computed.{judge, verdict}
 use Rattle.meaning.proofs.ListingNext.{eachOf, every, everyBy}
 use Rattle.meaning.proofs.ListingPrints.{listingBy, listingOn, listingOf, listing-answers, breaches-one}

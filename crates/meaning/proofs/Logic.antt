@@ -5,7 +5,6 @@ use mathlib.Core.Path.{_≡_, refl, sym}
 use mathlib.Core.Logic.{_⊎_, inl, inr}
 use Prim.Native.Nat.{ℕ}
 use native.Mathlib.Omega.{arith}
-use lib.Dec.{T}
 
 pub and-true-left : (a b : Bool) → (a && b) ≡ true → a ≡ true
 and-true-left true b e = refl
@@ -50,11 +49,3 @@ pub bool-same : (a b : Bool) → (a ≡ true → b ≡ true) → (b ≡ true →
 bool-same true b f g = sym (f refl)
 bool-same false true f g = g refl
 bool-same false false f g = refl
-
-pub T-true : (a : Bool) → T a → a ≡ true
-T-true true t = refl
-T-true false t = absurd t
-
-pub true-T : (a : Bool) → a ≡ true → T a
-true-T true e = tt
-true-T false e = absurd (let z : _≡_ {A = ℕ} 0 1 = cc in omega arith)

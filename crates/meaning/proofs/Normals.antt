@@ -18,8 +18,9 @@ use Rattle.meaning.specs.Context.{Term, Context, differ, equations, diff
 use Rattle.meaning.specs.Equality.{reflexive, symmetric, transitive, Equal, Apart, EqualIn, ApartIn, Consistent, Representatives}
 use Rattle.meaning.specs.Writing.{joins, sorted, lowerFirst, normalOf}
 use Rattle.meaning.specs.Formed.{Within, Fit}
+use Rattle.meaning.specs.Members.{In}
 use Rattle.meaning.proofs.Promised.{representatives-same}
-use Rattle.meaning.proofs.Sorted.{In, in-map, map-in, in-sorted, sorted-in, sorted-ascending, sorted-self}
+use Rattle.meaning.proofs.Sorted.{in-map, map-in, in-sorted, sorted-in, sorted-ascending, sorted-self}
 use Rattle.meaning.proofs.Joins.{Joint, joins-in, in-joins, joinsOf, partsOf, normal-equations, normal-differences}
 use Rattle.meaning.proofs.Pairs.{EqualRows, in-equal, equal-by, within-in, in-within, Sides, Parted, apart-parted, parted-apart, parted-by, consistent-free, free-consistent}
 

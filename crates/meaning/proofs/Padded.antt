@@ -2,14 +2,12 @@
 --     pad-at                            a padded column reads as the list does, also past its end
 --     context-columns, clause-columns   the context and the clause of padded columns are the ones whose columns they are
 -- Assumes nothing.
-use mathlib.Core.Bool.{Bool, true, false}
 use mathlib.Core.List.{List, [], _∷_, _++_, map, append-assoc}
 use mathlib.Core.Path.{_≡_, refl, ap, ap₂, sym, _∙_}
 use Prim.Native.Nat.{ℕ, zero, suc, _+_, _-_, _*_, _≤_, _<_}
 use native.Mathlib.Omega.{arith}
-use native.Mathlib.Decide.{decLt}
-use lib.ListN.{length, getD, take, drop, replicate, length-append, length-replicate, length-map, getD-replicate, List·getD-append, List·getD-eq-default, List·getD-map}
-use lib.Seq.{take-suc, take-length, take-append-seam, drop-append-seam, getD-append-add}
+use lib.ListN.{length, getD, take, drop, replicate, length-append, length-replicate, length-map, List·getD-map}
+use lib.Seq.{take-suc, take-length, take-append-seam}
 use Rattle.meaning.specs.Context.{Row, row₀, rowAt, Statement, same, differ, Context}
 use Rattle.meaning.specs.Rules.{Pattern, variable, apply, Literal, equal, unequal, Clause}
 use Rattle.meaning.specs.Formed.{leftOf, rightOf}

@@ -13,8 +13,9 @@ use lib.ListN.{length, getD}
 use Rattle.meaning.specs.Context.{Term, Row, Context, differences, termAt}
 use Rattle.meaning.specs.Equality.{Same, given, transitive, Stated, Equal, Apart, EqualIn, ApartIn, Consistent}
 use Rattle.meaning.specs.Formed.{Within}
+use Rattle.meaning.specs.Members.{In}
 use Rattle.meaning.proofs.Least.{Congruence, same-congruence, least}
-use Rattle.meaning.proofs.Sorted.{In, in-at, in-place}
+use Rattle.meaning.proofs.Sorted.{in-at, in-place}
 
 abbrev pub EqualRows : Context → ℕ → ℕ → Type 0
 EqualRows c i j = EqualIn c (termAt (c .rows) i) (termAt (c .rows) j)

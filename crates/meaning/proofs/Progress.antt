@@ -12,16 +12,7 @@ use borrow.Author.Tests.{eqb-true, eqb-false}
 use lib.ListN.{length}
 use Rattle.meaning.specs.Context.{Row, termAt}
 use Rattle.meaning.specs.Equality.{Equal, transitive}
-
--- what holds of the representatives from the start to the end
-pub record Sofar (rows : List Row) (eqs : List (ℕ × ℕ)) (rep : ℕ → ℕ) : Type 0 where
-  pub low : (i : ℕ) → i < length rows → rep i ≤ i
-  pub settled : (i : ℕ) → i < length rows → rep (rep i) ≡ rep i
-  pub sound : (i : ℕ) → i < length rows → Equal rows eqs (termAt rows i) (termAt rows (rep i))
-
--- the representative `hi` gives way to `lo`
-unfoldable pub move : ℕ → ℕ → ℕ → ℕ
-move lo hi x = elim (eqb x hi) [ true ↦ lo | false ↦ x ]
+use Rattle.meaning.specs.Closing.{Sofar, move, total}
 
 pub move-cases : (lo hi x : ℕ) → ((x ≡ hi) × (move lo hi x ≡ lo)) ⊎ ((x ≡ hi → ⊥) × (move lo hi x ≡ x))
 unfolding move
@@ -30,10 +21,6 @@ move-cases lo hi x = go (eqb x hi) refl
     go : (b : Bool) → eqb x hi ≡ b → ((x ≡ hi) × (move lo hi x ≡ lo)) ⊎ ((x ≡ hi → ⊥) × (move lo hi x ≡ x))
     go true e = inl (eqb-true x hi e, rw (e, move))
     go false e = inr (eqb-false x hi e, rw (e, move))
-
-unfoldable pub total : ℕ → (ℕ → ℕ) → ℕ
-total zero rep = 0
-total (suc n) rep = rep n + total n rep
 
 pub total-le : (n : ℕ) (f g : ℕ → ℕ) → ((r : ℕ) → r < n → f r ≤ g r) → total n f ≤ total n g
 unfolding total

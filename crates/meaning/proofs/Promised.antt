@@ -16,10 +16,9 @@ use lib.Seq.{ext-getD}
 use Rattle.meaning.specs.Context.{Term, Context, termAt, equations}
 use Rattle.meaning.specs.Equality.{EqualIn, given, reflexive, symmetric, transitive, Lowest, Representatives, Promise, repAt}
 use Rattle.meaning.specs.Formed.{Fit}
+use Rattle.meaning.specs.Closing.{Sofar, close}
 use Rattle.meaning.proofs.Model.{Closed, eval}
 use Rattle.meaning.proofs.Meaning.{meaning, meaning-rows}
-use Rattle.meaning.proofs.Progress.{Sofar}
-use Rattle.meaning.proofs.Closing.{close}
 use Rattle.meaning.proofs.Closes.{agree-equal, close-closed, close-long}
 
 -- ---- lowest rows

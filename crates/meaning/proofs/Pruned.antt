@@ -1,13 +1,13 @@
 -- A search that tries each literal as soon as its variables are set gives what the plain search gives, whatever the table and the clause are.
 --     Sought                   the assignments that the plain search looks through and that pass its test
---     fails, dead              some literal that is asked fails; a choice of the first variables under which a literal that is ready fails
+--     dead                     a choice of the first variables under which a literal that is ready fails
 --     dead-cuts                such a choice begins no assignment that passes, and a whole choice that is not dead passes
 --     startBox                 the representatives, for every variable
 --     pruned-first             with any pruning that keeps its promise the search gives what the plain search gives
 --     searchFrom, first-from   the search from an assignment on gives the first from there on that is sought
 --     first-from-all           a pruning that keeps every member serves for every assignment to start from
 -- Assumes nothing.
-use mathlib.Core.Bool.{Bool, true, false, not, _&&_, _||_}
+use mathlib.Core.Bool.{Bool, true, false, not, _&&_}
 use mathlib.Core.List.{List, [], _∷_, _++_}
 use mathlib.Core.Path.{_≡_, refl, _∙_}
 use mathlib.Core.Logic.{⊎-elim, _↔_}
@@ -21,6 +21,7 @@ use Rattle.meaning.specs.Rules.{Pattern, Literal, Clause, variables, Fou
 use Rattle.meaning.specs.Formed.{leftOf, rightOf}
 use Rattle.meaning.specs.Values.{levels, stages, numbers}
 use Rattle.meaning.specs.FirstBy.{holdsBy, allHoldBy, breaks, firstBy}
+use Rattle.meaning.specs.Pruning.{fails}
 use Rattle.meaning.proofs.Logic.{false-true, and-both, and-none, and-true-left, and-true-right, or-cases, or-none}
 use Rattle.meaning.proofs.Order.{first-one, same-first}
 use Rattle.meaning.proofs.Box.{Box, AllIn, Open, Good, good-replicate, open-replicate}
@@ -29,11 +30,6 @@ use Rattle.meaning.proofs.Narrow.{KeepsAll}
 use Rattle.meaning.proofs.From.{AtOrAfter, notBefore, search-from, search-all-from}
 use Rattle.meaning.proofs.Seek.{seek-first, starts, starts-rising}
 use Rattle.meaning.proofs.Prefix.{levels-most, ready, holds-prefix}
-
--- some literal that is asked fails
-unfoldable pub fails : (ℕ → ℕ → Bool) → (Literal → Bool) → List ℕ → List Literal → Bool
-fails differs asks ns [] = false
-fails differs asks ns (l ∷ more) = (asks l && not (holdsBy differs ns l)) || fails differs asks ns more
 
 -- the rows that are their own representatives, for every variable
 abbrev pub startBox : List Row → (ℕ → ℕ) → Clause → Box

@@ -15,16 +15,14 @@ use Rattle.meaning.specs.Replies.{Reply, breach, none, refused, Replies}
 use Rattle.meaning.specs.Formed.{Fit}
 use Rattle.meaning.specs.ByTable.{sameList, clashOf, clashFrom}
 use Rattle.meaning.specs.Values.{numbers, number, stages, step, numberOf, met, isOver, held, rowsAt, levels, levelsFrom, levelOf, highest}
-use Rattle.meaning.specs.Following.{followsBy}
+use Rattle.meaning.specs.Following.{followsBy, widerBy}
 use Rattle.meaning.specs.FirstBy.{firstBy, seek, tryAll, orElse, lowest, breaks, allHoldBy, holdsBy}
 use Rattle.meaning.specs.Sheet.{Example, gets, bytes, represents, equates, Shown, AllShown, sheet, further, fault, bytesNamed}
+use Rattle.meaning.specs.Closing.{move, total, close, agree, rounds, round, rowsPass, rowPass, statedPass, upto, unite, uniteIf, count}
 use Rattle.meaning.proofs.Logic.{and-true-left, and-true-right}
 use Rattle.meaning.proofs.Lists.{sameList-true}
-use Rattle.meaning.proofs.Progress.{move, total}
-use Rattle.meaning.proofs.Closing.{close, agree, rounds, round, rowsPass, rowPass, statedPass, upto, unite, uniteIf, count}
 use Rattle.meaning.proofs.Promised.{model-rows, closing-promise, closing-represents}
 use Rattle.meaning.proofs.Taken.{read-formed}
-use Rattle.meaning.proofs.FollowingNumbers.{widerBy}
 use Rattle.meaning.proofs.Computed.{repOf, replyTo, replyOn, judge, verdict}
 use Rattle.meaning.proofs.Answered.{replyTo-replies}
 

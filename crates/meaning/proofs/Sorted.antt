@@ -1,5 +1,5 @@
 -- Pairs of numbers sorted by first then second: `sorted` has exactly the members of its argument, each once and in this order.
---     In, in-at, in-place            a member of a list, and the place where it stands
+--     in-at, in-place                a member of a list, and the place where it stands
 --     Sooner, Ascending              the order; each pair stands before those that follow it
 --     sorted-in, sorted-ascending    what sorting keeps, and what it makes
 --     ascending-one, sorted-self     ascending lists with the same members are one list; sorting an ascending list leaves it
@@ -14,13 +14,10 @@ use lib.Dec.{eqb, ltb}
 use borrow.Author.Tests.{eqb-true, eq-eqb, ltb-true, ltb-false, lt-ltb}
 use lib.ListN.{length, getD}
 use Rattle.meaning.specs.Writing.{sooner, insert, sorted}
+use Rattle.meaning.specs.Members.{In}
 use Rattle.meaning.proofs.Logic.{and-true-left, and-true-right, and-both, or-cases, or-left, or-right, false-true}
 
 -- ---- members
-
-abbrev pub In : {A : Type 0} → A → List A → Type 0
-In x [] = ⊥
-In x (y ∷ l) = (x ≡ y) ⊎ In x l
 
 pub in-at : {A : Type 0} (l : List A) (k : ℕ) (d : A) → k < length l → In (getD l k d) l
 in-at [] k d h = absurd (omega arith)

@@ -1,10 +1,10 @@
 -- Conclusions judged by numbers, and the computed verdict, which is the verdict.
 --     true-concludes, concludes-true  a conclusion shows a literal by numbers, and as meant
---     Ends, ends-verified             the three places where the tests end, and the verdict that they give
+--     verdict-unassigned .. verdict-accepted   the three places where the tests end, and the verdict that they give
 --     verdictBy-verified              the computed verdict
 -- Assumes nothing.
-use mathlib.Core.Bool.{Bool, true, false, _&&_}
-use mathlib.Core.List.{List, [], _∷_}
+use mathlib.Core.Bool.{Bool, true, false}
+use mathlib.Core.List.{List}
 use mathlib.Core.Path.{_≡_, refl, sym, subst}
 use Prim.Native.Nat.{ℕ, zero, suc, _+_, _-_, _≤_, _<_}
 use native.Mathlib.Omega.{arith}

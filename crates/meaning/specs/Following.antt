@@ -2,12 +2,16 @@
 --     withEquation   a context that states the equation of two rows too
 --     followsBy      whether some stated difference has one representative
 --     occursBy       whether a class has an argument of some row or a side of some difference
+--     widerBy        whether two numbers differ: rows, by a closing with their equation; a number that is no row differs from nothing
 -- Assumes nothing.
-use mathlib.Core.Bool.{Bool, false, _||_}
+use mathlib.Core.Bool.{Bool, false, _&&_, _||_}
 use mathlib.Core.List.{List, [], _∷_}
 use Prim.Native.Nat.{ℕ}
-use lib.Dec.{eqb}
-use Rattle.meaning.specs.Context.{Row, same, Context}
+use lib.Dec.{eqb, ltb}
+use lib.ListN.{length}
+use Rattle.meaning.specs.Context.{Row, same, Context, equations, differences}
+use Rattle.meaning.specs.Equality.{repAt}
+use Rattle.meaning.specs.Closing.{close}
 
 abbrev pub withEquation : Context → ℕ → ℕ → Context
 withEquation c i j = record { rows = c .rows; statements = same i j ∷ c .statements }
@@ -32,3 +36,9 @@ sideBy rep (d ∷ ds) a = (eqb (rep (d .0)) a || eqb (rep (d .1)) a) || sideBy r
 
 unfoldable pub occursBy : (ℕ → ℕ) → List Row → List (ℕ × ℕ) → ℕ → Bool
 occursBy rep rows ds a = argumentBy rep rows a || sideBy rep ds a
+
+-- ---- the test of two numbers
+
+unfoldable pub widerBy : Context → ℕ → ℕ → Bool
+widerBy c n m =
+    (ltb n (length (c .rows)) && ltb m (length (c .rows))) && followsBy (repAt (close (c .rows) ((n, m) ∷ equations c))) (differences c)

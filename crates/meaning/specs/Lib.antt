@@ -5,14 +5,17 @@ pub mod Rules
 pub mod Grounds
 pub mod Text
 pub mod Writing
+pub mod Members
 pub mod Replies
 pub mod Listing
 pub mod Formed
 pub mod Columns
 pub mod ByTable
+pub mod Closing
 pub mod Following
 pub mod Values
 pub mod FirstBy
+pub mod Pruning
 pub mod Next
 pub mod Sheet
 pub mod Packing

@@ -1,6 +1,5 @@
 -- Two answers that meet one contract of this crate are equal.
 --     written-one    the writer's answer and the lent space afterwards
---     prints-one     a line (in `Printing`)
 -- Assumes nothing.
 use mathlib.Core.List.{List, _++_}
 use mathlib.Core.Logic.{_⊎_, inl, inr, ⊎-elim}

@@ -3,39 +3,23 @@
 --     normal-text     and what is written is the context's normal text
 -- Assumes nothing.
 use mathlib.Core.Bool.{Bool, true, false}
-use mathlib.Core.List.{List, [], _∷_, _++_}
-use mathlib.Core.Path.{_≡_, refl, sym, ap, _∙_, subst}
+use mathlib.Core.List.{List, [], _∷_}
+use mathlib.Core.Path.{_≡_, refl, _∙_, subst}
 use Prim.Native.Nat.{ℕ, zero, suc, _+_, _*_, _≤_, _<_}
 use native.Mathlib.Omega.{arith}
-use borrow.Author.Tests.{ltb-true, ltb-false}
-use lib.Dec.{eqb, ltb}
-use lib.ListN.{length, getD, drop, List·getD-append, length-append, length-drop}
-use lib.Seq.{getD-take, getD-drop, getD-at, length-take-le}
-use Rattle.meaning.specs.Context.{Row, row₀, rowAt, Statement, same, differ, equationsOf, differencesOf}
+use lib.Dec.{eqb}
+use lib.ListN.{length, getD, drop, length-drop}
+use lib.Seq.{getD-take, getD-drop, length-take-le}
+use Rattle.meaning.specs.Context.{Row, Statement, same, differ, equationsOf, differencesOf}
 use Rattle.meaning.specs.Equality.{repAt, Promise}
 use Rattle.meaning.specs.Formed.{Within, Fit}
 use Rattle.meaning.specs.Rules.{Below}
-use Rattle.meaning.specs.Columns.{argsAt, rowFrom, rowsFrom, statementOf, statementsFrom, contextFrom, firstOf, secondOf}
+use Rattle.meaning.specs.Columns.{argsAt, rowsFrom, statementOf, statementsFrom, contextFrom, firstOf, secondOf}
 use Rattle.meaning.specs.Replies.{Normal}
+use Rattle.meaning.proofs.Built.{length-rows, rows-at, length-statements, statements-at}
 use Rattle.normaliser.specs.Normals.{Writable, normalText}
-use Rattle.normaliser.proofs.Texts.{length-from}
 
 -- ---- the rows
-
-row-in : (symbols counts args : List ℕ) (n i : ℕ) → i < n → rowAt (rowsFrom symbols counts args n) i ≡ rowFrom symbols counts args i
-unfolding rowsFrom
-row-in symbols counts args zero i h = absurd (omega arith)
-row-in symbols counts args (suc n) i h = go (ltb i n) refl (row-in symbols counts args n i)
-  where
-    go : (b : Bool) → ltb i n ≡ b → (i < n → rowAt (rowsFrom symbols counts args n) i ≡ rowFrom symbols counts args i)
-        → rowAt (rowsFrom symbols counts args (suc n)) i ≡ rowFrom symbols counts args i
-    go true e ih =
-        List·getD-append (rowsFrom symbols counts args n) (rowFrom symbols counts args n ∷ []) row₀ i (omega (arith, length-from symbols counts args n, ltb-true i n e))
-        ∙ ih (ltb-true i n e)
-    go false e ih =
-        let f : i ≡ n = omega (arith, ltb-false i n e) in
-        getD-at (rowsFrom symbols counts args n) (rowFrom symbols counts args n) [] row₀ i (length-from symbols counts args n ∙ sym f)
-        ∙ ap (rowFrom symbols counts args) (sym f)
 
 below-at : (n : ℕ) (l : List ℕ) → Below n l → (k : ℕ) → k < length l → getD l k 0 < n
 below-at n [] b k h = absurd (omega arith)
@@ -53,31 +37,6 @@ sides n (same p q ∷ l) e d zero h = e 0 (omega arith)
 sides n (differ p q ∷ l) e d zero h = d 0 (omega arith)
 sides n (same p q ∷ l) e d (suc k) h = sides n l (λ j i. e (suc j) (omega arith)) d k (omega arith)
 sides n (differ p q ∷ l) e d (suc k) h = sides n l e (λ j i. d (suc j) (omega arith)) k (omega arith)
-
-length-stated : (kinds lefts rights : List ℕ) (m : ℕ) → length (statementsFrom kinds lefts rights m) ≡ m
-unfolding statementsFrom
-length-stated kinds lefts rights zero = refl
-length-stated kinds lefts rights (suc m) =
-    length-append (statementsFrom kinds lefts rights m) (statementOf (getD kinds m 0) (getD lefts m 0) (getD rights m 0) ∷ [])
-    ∙ omega (arith, length-stated kinds lefts rights m)
-
-statement-in : (kinds lefts rights : List ℕ) (m k : ℕ) → k < m
-    → getD (statementsFrom kinds lefts rights m) k (same 0 0) ≡ statementOf (getD kinds k 0) (getD lefts k 0) (getD rights k 0)
-unfolding statementsFrom
-statement-in kinds lefts rights zero k h = absurd (omega arith)
-statement-in kinds lefts rights (suc m) k h = go (ltb k m) refl (statement-in kinds lefts rights m k)
-  where
-    at : ℕ → Statement
-    at i = statementOf (getD kinds i 0) (getD lefts i 0) (getD rights i 0)
-
-    go : (b : Bool) → ltb k m ≡ b → (k < m → getD (statementsFrom kinds lefts rights m) k (same 0 0) ≡ at k)
-        → getD (statementsFrom kinds lefts rights m ++ (at m ∷ [])) k (same 0 0) ≡ at k
-    go true e ih =
-        List·getD-append (statementsFrom kinds lefts rights m) (at m ∷ []) (same 0 0) k (omega (arith, length-stated kinds lefts rights m, ltb-true k m e))
-        ∙ ih (ltb-true k m e)
-    go false e ih =
-        let f : k ≡ m = omega (arith, ltb-false k m e) in
-        getD-at (statementsFrom kinds lefts rights m) (at m) [] (same 0 0) k (length-stated kinds lefts rights m ∙ sym f) ∙ ap at (sym f)
 
 of-sides : (kind p q : ℕ) → (firstOf (statementOf kind p q) ≡ p) × (secondOf (statementOf kind p q) ≡ q)
 unfolding statementOf
@@ -101,11 +60,11 @@ module _ (symbols counts args : List ℕ) (n : ℕ) (kinds lefts rights : List �
       }
     where
       as-many : length (rowsFrom symbols counts args n) ≡ n
-      as-many = length-from symbols counts args n
+      as-many = length-rows symbols counts args n
 
       arg : (i k : ℕ) → i < n → k < getD counts i 0 → getD args (i * 4 + k) 0 < n
       arg i k h l =
-          let b : Below i (argsAt counts args i) = subst (λ (r : Row). Below i (r .args)) (row-in symbols counts args n i h) (fit .ordered i (omega (arith, as-many))) in
+          let b : Below i (argsAt counts args i) = subst (λ (r : Row). Below i (r .args)) (rows-at symbols counts args n i h) (fit .ordered i (omega (arith, as-many))) in
           let e : getD (argsAt counts args i) k 0 ≡ getD args (i * 4 + k) 0 = getD-take (getD counts i 0) (drop (i * 4) args) k 0 l ∙ getD-drop (i * 4) args k 0 in
           omega (arith, below-at i (argsAt counts args i) b k (omega (arith, args-length i h)))
         where
@@ -115,8 +74,8 @@ module _ (symbols counts args : List ℕ) (n : ℕ) (kinds lefts rights : List �
       side : (k : ℕ) → k < m → (getD lefts k 0 < n) × (getD rights k 0 < n)
       side k h =
           let s : (firstOf (statementOf (getD kinds k 0) (getD lefts k 0) (getD rights k 0)) < n) × (secondOf (statementOf (getD kinds k 0) (getD lefts k 0) (getD rights k 0)) < n) =
-          rw statement-in at
-          (sides n (statementsFrom kinds lefts rights m) (rw as-many at (fit .within)) (rw as-many at (fit .apart)) k (omega (arith, length-stated kinds lefts rights m))) in
+          rw statements-at at
+          (sides n (statementsFrom kinds lefts rights m) (rw as-many at (fit .within)) (rw as-many at (fit .apart)) k (omega (arith, length-statements kinds lefts rights m))) in
           (omega (arith, s .0, of-sides (getD kinds k 0) (getD lefts k 0) (getD rights k 0) .0), omega (arith, s .1, of-sides (getD kinds k 0) (getD lefts k 0) (getD rights k 0) .1))
 
       rep : (i : ℕ) → i < n → repAt table i < 255

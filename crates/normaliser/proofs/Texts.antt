@@ -17,7 +17,9 @@ use Rattle.meaning.specs.Context.{Row, Statement, same, differ, differencesOf}
 use Rattle.meaning.specs.Equality.{repAt}
 use Rattle.meaning.specs.Columns.{argsAt, rowFrom, rowsFrom, statementOf, statementsFrom, contextFrom}
 use Rattle.meaning.specs.Writing.{frame, rowsText, statementsText, contextText, joins, sorted, lowerFirst, normalOf}
-use Rattle.meaning.proofs.Sorted.{In, in-map, map-in, Sooner, Ascending, in-sorted, sorted-in, sorted-ascending, ascending-one}
+use Rattle.meaning.specs.Members.{In}
+use Rattle.meaning.proofs.Built.{length-rows as rows-long}
+use Rattle.meaning.proofs.Sorted.{in-map, map-in, Sooner, Ascending, in-sorted, sorted-in, sorted-ascending, ascending-one}
 use Rattle.normaliser.specs.Pieces.{run, rowPiece, joinPiece, keyPiece}
 use Rattle.normaliser.specs.Rooms.{RowsFit, rowsSize, joinsSize}
 use Rattle.normaliser.specs.Sorting.{Rising, Sorts}
@@ -53,12 +55,6 @@ module _ (symbols counts args : List ℕ) (n : ℕ) (fit : RowsFit counts args n
       rows-append (rowsFrom symbols counts args m) (rowFrom symbols counts args m ∷ [])
       ∙ ap₂ (λ (a b : List ℕ). a ++ b) (rows-text m (omega arith)) (row-text m (omega arith) ∙ ap (rowPiece symbols counts args) (sym e))
       ∙ sym (run-snoc (rowPiece symbols counts args) 0 m)
-
-pub length-from : (symbols counts args : List ℕ) (n : ℕ) → length (rowsFrom symbols counts args n) ≡ n
-unfolding rowsFrom
-length-from symbols counts args zero = refl
-length-from symbols counts args (suc n) =
-    length-append (rowsFrom symbols counts args n) (rowFrom symbols counts args n ∷ []) ∙ omega (arith, length-from symbols counts args n)
 
 -- ---- the equations
 
@@ -196,7 +192,7 @@ module _ (symbols counts args : List ℕ) (n : ℕ) (kinds lefts rights : List �
   unfolding normalText contextText normalOf contextFrom
   text-pieces =
       ap₂ (λ (a b : List ℕ). a ++ b) (rows-text symbols counts args n (fit .rows) n (omega arith))
-      (ap (λ (l : ℕ). statementsText (joins (repAt table) 0 l ++ ds)) (length-from symbols counts args n)
+      (ap (λ (l : ℕ). statementsText (joins (repAt table) 0 l ++ ds)) (rows-long symbols counts args n)
       ∙ statements-append (joins (repAt table) 0 n) ds ∙ ap₂ (λ (a b : List ℕ). a ++ b) (joins-text table 0 n) differences-text)
     where
       ds : List Statement

@@ -8,27 +8,27 @@ use mathlib.Core.Bool.{Bool, true, false}
 use mathlib.Core.List.{List, [], _∷_, map}
 use mathlib.Core.Path.{_≡_, refl, ap, ap₂, sym, _∙_, subst}
 use mathlib.Core.Logic.{inl, inr}
-use Prim.Native.Nat.{ℕ, zero, suc, _+_, _-_, _*_, _≤_, _<_}
+use Prim.Native.Nat.{ℕ, suc, _+_, _-_, _*_, _≤_, _<_}
 use native.Mathlib.Numerals.{add-one}
 use native.Mathlib.Omega.{arith}
 use lib.Dec.{eqb, ltb}
 use borrow.Author.Needs.{needs}
 use borrow.Author.Tests.{eqb-true, eqb-false, eq-eqb, ne-eqb, ltb-true, ltb-false}
-use lib.ListN.{length, getD, set, take, drop, length-set, length-replicate, List·getD-append}
-use lib.Seq.{getD-set-same, getD-set-other, getD-at}
+use lib.ListN.{length, getD, set, take, drop, length-set, length-replicate}
+use lib.Seq.{getD-set-same, getD-set-other}
 use Rattle.meaning.specs.Context.{Row, rowAt}
 use Rattle.meaning.specs.Rules.{Pattern, variable, apply, variables, Below}
 use Rattle.meaning.specs.Formed.{Ordered}
 use Rattle.meaning.specs.Values.{numberAt, argsOf}
 use Rattle.meaning.specs.Columns.{argsAt, rowFrom, rowsFrom, patternOf, patternsFrom}
 use Rattle.meaning.specs.Checking.{entryOf, entries, keyOf, sameKey, alike}
-use Rattle.meaning.proofs.Lists.{below-wider, length-snoc}
+use Rattle.meaning.proofs.Lists.{below-wider}
 use Rattle.meaning.proofs.Entries.{length-entries, entry-front, entry-back, entries-ordered, variable-counted}
 use Rattle.meaning.proofs.Faithful.{Outcome, faithful-next}
+use Rattle.meaning.proofs.Built.{length-rows, rows-at, length-patterns, patterns-at}
 use Rattle.numbering.specs.Keys.{Keyed, keyRow, after, Like, like-found, like-none}
 use Rattle.numbering.specs.Entries.{clauseRow, entryRow, EntryFits, withArgs, emptyTable, withKey, withNumber, Added, Filled, Fillable}
 use Rattle.numbering.specs.declared.table.Table.{Table}
-use Rattle.numbering.proofs.Keying.{length-rows, rows-at}
 use Rattle.numbering.proofs.Keying.{four-places}
 
 -- ---- four places
@@ -105,27 +105,6 @@ module _ (symbols counts args : List ℕ) (e s c : ℕ) (a : List ℕ) (room : e
       (rw (getD-set-same counts e c 0 hc) (four-taken args (e * 4) a room c few four))
 
 -- ---- pattern rows in columns
-
-pub length-patterns : (shapes heads arities subs : List ℕ) (n : ℕ) → length (patternsFrom shapes heads arities subs n) ≡ n
-unfolding patternsFrom
-length-patterns shapes heads arities subs zero = refl
-length-patterns shapes heads arities subs (suc n) = length-snoc (patternsFrom shapes heads arities subs n) _ ∙ ap suc (length-patterns shapes heads arities subs n)
-
-patterns-at : (shapes heads arities subs : List ℕ) (n p : ℕ) (d : Pattern) → p < n
-    → getD (patternsFrom shapes heads arities subs n) p d ≡ patternOf (getD shapes p 0) (getD heads p 0) (argsAt arities subs p)
-unfolding patternsFrom
-patterns-at shapes heads arities subs zero p d h = absurd (omega arith)
-patterns-at shapes heads arities subs (suc n) p d h = go (ltb p n) refl (patterns-at shapes heads arities subs n p d)
-  where
-    go : (b : Bool) → ltb p n ≡ b → (p < n → getD (patternsFrom shapes heads arities subs n) p d ≡ patternOf (getD shapes p 0) (getD heads p 0) (argsAt arities subs p))
-        → getD (patternsFrom shapes heads arities subs (suc n)) p d ≡ patternOf (getD shapes p 0) (getD heads p 0) (argsAt arities subs p)
-    go true e rest =
-        List·getD-append (patternsFrom shapes heads arities subs n) _ d p (omega (arith, length-patterns shapes heads arities subs n, ltb-true p n e)) ∙ rest (ltb-true p n e)
-    go false e rest =
-        let z : p ≡ n = omega (arith, ltb-false p n e) in
-        rw z
-        (getD-at (patternsFrom shapes heads arities subs n) (patternOf (getD shapes n 0) (getD heads n 0) (argsAt arities subs n)) [] d n
-        (length-patterns shapes heads arities subs n))
 
 pattern-variable : (kind head : ℕ) (l : List ℕ) → kind ≡ 4 → patternOf kind head l ≡ variable head
 unfolding patternOf

@@ -1,5 +1,4 @@
 -- Keys by each way out of the code: the numbers of arguments, two keys compared, the first entry with a key.
---     length-rows, rows-at   rows in columns, one by one
 --     four-places            four places in a row, taken as far as they count
 --     mine    what the functions of `keys` that compare leave to show
 --     made    what those that make a key leave
@@ -9,43 +8,23 @@ use mathlib.Core.List.{List, [], _∷_, map}
 use mathlib.Core.Path.{_≡_, refl, ap, ap₂, sym, _∙_}
 use Prim.Native.Nat.{ℕ, zero, suc, _+_, _*_, _≤_, _<_}
 use native.Mathlib.Omega.{arith}
-use lib.Dec.{eqb, ltb}
+use lib.Dec.{eqb}
 use borrow.Author.Count.{below-more}
 use borrow.Author.Needs.{needs}
-use borrow.Author.Tests.{eq-eqb, ne-eqb, lt-ltb, le-ltb, ltb-true, ltb-false}
-use lib.ListN.{length, getD, take, drop, length-take, length-drop, List·getD-append, List·getD-eq-default}
-use lib.Seq.{drop-cons, getD-take, getD-drop, ext-getD, take-take, getD-at}
-use Rattle.meaning.specs.Context.{row₀, rowAt}
+use borrow.Author.Tests.{eq-eqb, ne-eqb, lt-ltb, le-ltb}
+use lib.ListN.{length, getD, take, drop, length-take, length-drop, List·getD-eq-default}
+use lib.Seq.{drop-cons, getD-take, getD-drop, ext-getD, take-take}
 use Rattle.meaning.specs.Values.{numberAt, argsOf}
 use Rattle.meaning.specs.ByTable.{sameList}
-use Rattle.meaning.specs.Columns.{argsAt, rowFrom, rowsFrom}
+use Rattle.meaning.specs.Columns.{argsAt, rowFrom}
 use Rattle.meaning.specs.Checking.{keyOf, sameKey}
 use Rattle.meaning.proofs.Logic.{and-true-right}
-use Rattle.meaning.proofs.Lists.{sameList-true, length-snoc}
+use Rattle.meaning.proofs.Lists.{sameList-true}
 use Rattle.meaning.proofs.Entries.{length-map, map-at}
 use Rattle.numbering.specs.Keys.{Keyed, keyRow, argNumber, after, patternRow, RowFits, PatternFits, Like, like-found, like-none}
 
 pub number-past : (ns : List ℕ) (row : ℕ) → length ns ≤ row → 0 ≡ numberAt ns row
 number-past ns row h = sym (List·getD-eq-default ns 0 h)
-
--- ---- rows in columns
-
-pub length-rows : (symbols counts args : List ℕ) (n : ℕ) → length (rowsFrom symbols counts args n) ≡ n
-unfolding rowsFrom
-length-rows symbols counts args zero = refl
-length-rows symbols counts args (suc n) = length-snoc (rowsFrom symbols counts args n) _ ∙ ap suc (length-rows symbols counts args n)
-
-pub rows-at : (symbols counts args : List ℕ) (n i : ℕ) → i < n → rowAt (rowsFrom symbols counts args n) i ≡ rowFrom symbols counts args i
-unfolding rowsFrom
-rows-at symbols counts args zero i h = absurd (omega arith)
-rows-at symbols counts args (suc n) i h = go (ltb i n) refl (rows-at symbols counts args n i)
-  where
-    go : (b : Bool) → ltb i n ≡ b → (i < n → rowAt (rowsFrom symbols counts args n) i ≡ rowFrom symbols counts args i)
-        → rowAt (rowsFrom symbols counts args (suc n)) i ≡ rowFrom symbols counts args i
-    go true e rest = List·getD-append (rowsFrom symbols counts args n) _ row₀ i (omega (arith, length-rows symbols counts args n, ltb-true i n e)) ∙ rest (ltb-true i n e)
-    go false e rest =
-        let z : i ≡ n = omega (arith, ltb-false i n e) in
-        rw z (getD-at (rowsFrom symbols counts args n) (rowFrom symbols counts args n) [] row₀ n (length-rows symbols counts args n))
 
 -- ---- the numbers of arguments
 

@@ -18,12 +18,13 @@ use Rattle.meaning.specs.Rules.{Pattern, variables, Literal, equal, unequal, Cl
 use Rattle.meaning.specs.Formed.{AllPlaced, Names, NamesAll, leftOf, rightOf}
 use Rattle.meaning.specs.Values.{numberAt, numbers}
 use Rattle.meaning.specs.FirstBy.{holdsBy, allHoldBy, breaks, firstBy}
+use Rattle.meaning.specs.Pruning.{touches, noneTouch}
 use Rattle.meaning.proofs.Logic.{and-true-left, and-true-right, and-both, or-none, or-cases, false-true}
 use Rattle.meaning.proofs.Box.{Mem, AllIn}
 use Rattle.meaning.proofs.Search.{search, Prunes}
 use Rattle.meaning.proofs.Seek.{starts, starts-rising, lowest-self, seek-first}
 use Rattle.meaning.proofs.Narrow.{takeFirst, free-prunes}
-use Rattle.meaning.proofs.Free.{touches, untouched, noneTouch}
+use Rattle.meaning.proofs.Free.{untouched}
 use Rattle.meaning.proofs.Pruned.{startBox, Sought}
 use Rattle.meaning.proofs.Due.{deadNow, due-first}
 use Rattle.plan.specs.Reach.{idle, asked, freeBy, selfUnequal, never}

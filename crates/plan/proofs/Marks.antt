@@ -15,8 +15,8 @@ use lib.ListN.{length, getD, set, replicate, length-set, length-append}
 use Rattle.meaning.specs.Rules.{Pattern}
 use Rattle.meaning.specs.Columns.{argsAt, patternsFrom}
 use Rattle.meaning.specs.Values.{highest}
-use Rattle.meaning.proofs.Free.{anyOf, touch, touchesFrom, touches}
-use Rattle.columns.proofs.Built.{patternIn}
+use Rattle.meaning.specs.Pruning.{anyOf, touch, touchesFrom, touches}
+use Rattle.meaning.proofs.Built.{patternIn}
 use Rattle.columns.proofs.Flat.{pattern-at-variable, pattern-at-symbol}
 use Rattle.plan.specs.Planning.{RowFit}
 use Rattle.plan.specs.Plans.{markOf}

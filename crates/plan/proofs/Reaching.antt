@@ -18,9 +18,9 @@ use lib.Seq.{getD-set-same, getD-set-other}
 use Rattle.meaning.specs.Rules.{Literal, Clause}
 use Rattle.meaning.specs.Formed.{leftOf, rightOf}
 use Rattle.meaning.specs.Columns.{literalOf, literalsFrom, patternsFrom, clauseFrom}
-use Rattle.meaning.proofs.Free.{touches, noneTouch}
+use Rattle.meaning.specs.Pruning.{touches, noneTouch}
+use Rattle.meaning.proofs.Built.{literalAt}
 use Rattle.columns.specs.Fit.{Every}
-use Rattle.columns.proofs.Built.{literalAt}
 use Rattle.plan.specs.Reach.{idle, asked, freeBy, selfUnequal, never}
 use Rattle.plan.specs.Plans.{markOf, Frees}
 use Rattle.plan.specs.Marks.{Marked, reaches, noneReaches}

@@ -8,7 +8,7 @@ use mathlib.Core.List.{List, [], _∷_}
 use Prim.Native.Nat.{ℕ}
 use lib.Dec.{eqb}
 use Rattle.meaning.specs.Rules.{Literal, equal, unequal, Clause}
-use Rattle.meaning.proofs.Free.{touches, noneTouch}
+use Rattle.meaning.specs.Pruning.{touches, noneTouch}
 
 unfoldable pub idle : Literal → Bool
 idle (equal p q) = eqb p q

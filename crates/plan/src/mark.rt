@@ -1,7 +1,7 @@
 // Which pattern rows have a variable in their terms: 1 for each that has, and 0.
 ghost use mathlib.Core.Path.{_≡_};
 ghost use Rattle.meaning.specs.Columns.{patternsFrom};
-ghost use Rattle.meaning.proofs.Free.{touches};
+ghost use Rattle.meaning.specs.Pruning.{touches};
 ghost use Rattle.plan.specs.Planning.{RuleFit, RowFit};
 ghost use Rattle.plan.specs.Plans.{markOf};
 ghost use Rattle.plan.specs.Marks.{markAt, Marked};

@@ -2,7 +2,7 @@
 --     output-over, output-wrote, output-refused   input that is too long; a normal text; a refusal
 --     output-prints                               with space for any normal text, the parts joined are the program's output
 -- Assumes nothing.
-use mathlib.Core.List.{List, [], _∷_, _++_, append-nil}
+use mathlib.Core.List.{List, [], _++_, append-nil}
 use mathlib.Core.Path.{_≡_, refl, sym, ap, ap₂, subst, _∙_}
 use Prim.Native.Nat.{ℕ, zero, suc, _+_, _-_, _≤_, _<_}
 use native.Mathlib.Omega.{arith}
@@ -17,7 +17,7 @@ use Rattle.meaning.specs.Text.{narrow, read, faulty, taken}
 use Rattle.meaning.specs.Writing.{contextText, normalOf}
 use Rattle.meaning.specs.Replies.{Written as MW}
 use Rattle.meaning.specs.Replies.{refused, refusal, printed, Normalised, normal, abnormal, Settled, contradicts, settles, NormalisesTo, Normalises, Leaves, fits, short, stays, wrote, unwritten, Writes, printedNormal, NormalisePrints, long, normalises}
-use Rattle.meaning.proofs.Closing.{close}
+use Rattle.meaning.specs.Closing.{close}
 use Rattle.meaning.proofs.Promised.{closing-represents, closing-promise}
 use Rattle.meaning.proofs.Taken.{read-formed}
 use Rattle.meaning.proofs.Agreement.{normal-one}

@@ -2,16 +2,15 @@
 --     prints-long, prints-breach, prints-clear, prints-refused   input that is too long; a breach; none; a refusal
 --     prints-found-one                                           two lines for one input are equal
 -- Assumes nothing.
-use mathlib.Core.List.{List, [], _∷_, _++_, map}
+use mathlib.Core.List.{List, [], _∷_, map}
 use mathlib.Core.Path.{_≡_, refl, sym, ap, ap₂, subst, _∙_}
-use mathlib.Core.Logic.{_⊎_, inl, inr}
-use Prim.Native.Nat.{ℕ, zero, suc, _+_, _-_, _%_, _≤_, _<_}
+use Prim.Native.Nat.{ℕ, _-_, _≤_, _<_}
 use native.Mathlib.Omega.{arith}
 use borrow.Author.Needs.{needs}
 use lib.ListN.{length, take, replicate}
-use lib.Seq.{take-append-seam, take-at}
+use lib.Seq.{take-at}
 use Rattle.meaning.specs.Context.{terms}
-use Rattle.meaning.specs.Rules.{Below, Found, found, nothing}
+use Rattle.meaning.specs.Rules.{Below, found, nothing}
 use Rattle.meaning.specs.Text as M
 use Rattle.meaning.specs.Text.{narrow, read, faulty, taken}
 use Rattle.meaning.specs.Replies.{Reply, breach, none, refused, refusal, printed, placesOf, Judged, empty, clashes, answers, RepliesTo, Replies, FindPrints, long, replies}
@@ -21,7 +20,6 @@ use Rattle.meaning.proofs.Answered.{replies-one}
 use Rattle.ledger.specs.Phases.{meant}
 use Rattle.ledger.specs.declared.Refusal.{Refusal}
 use Rattle.finder.specs.Claims.{toldBy, toldOf, Finds}
-use Rattle.finder.specs.declared.Outcome.{Outcome}
 use Rattle.finder.specs.declared.Outcome.the-variants as O
 use Rattle.finder.specs.declared.Reply.{Reply as Answer}
 use Rattle.normaliser.specs.Pieces.{low8}

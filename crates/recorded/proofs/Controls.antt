@@ -15,7 +15,7 @@ use Rattle.meaning.specs.Formed.{Ordered}
 use Rattle.meaning.specs.Columns.{statementsFrom, patternsFrom, literalsFrom, clauseFrom}
 use Rattle.meaning.specs.Replies as M
 use Rattle.meaning.specs.Replies.{breach, none, refused, refusal, placesOf, empty}
-use Rattle.meaning.proofs.Closing.{count}
+use Rattle.meaning.specs.Closing.{count}
 use Rattle.meaning.proofs.Closes.{length-count, repAt-count}
 use Rattle.ledger.specs.declared.ClauseColumns.{ClauseColumns}
 use Rattle.ledger.specs.declared.Refusal.{Refusal}

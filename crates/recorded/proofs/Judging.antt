@@ -24,8 +24,8 @@ use Rattle.meaning.specs.Replies as M
 use Rattle.meaning.specs.Replies.{breach, none, refused, refusal, replyOf, placesOf, Judged}
 use Rattle.meaning.proofs.Computed.{verdict}
 use Rattle.meaning.proofs.Answered.{verdict-judged}
+use Rattle.meaning.proofs.Built.{build-length, patternIn, patterns-build, literalAt, literals-build}
 use Rattle.columns.specs.Fit.{Decides, FitContext, FitClause}
-use Rattle.columns.proofs.Built.{build-length, patternIn, patterns-build, literalAt, literals-build}
 use Rattle.columns.proofs.Deciding.{decides-not}
 use Rattle.ledger.specs.declared.ContextColumns.{ContextColumns}
 use Rattle.ledger.specs.declared.ClauseColumns.{ClauseColumns}

@@ -4,7 +4,7 @@
 --     holds-fit, fit-holds                          and are well-formed where they are, of whatever table
 --     gathered-holds, gather-take, gather-holds     columns hold the records made of them
 --     gather-fit, fit-gather, gather-context        so both are well-formed alike, and say one context
---     spread-holds, spread-rows, spread-over        the columns made of at most 255 records hold them; of more, neither is well-formed
+--     spread-holds, spread-over                     the columns made of at most 255 records hold them; of more, neither is well-formed
 --     spread-fit, fit-spread, spread-context        so both are well-formed alike, and say one context, whatever the records
 --     row-unread, rows-unread, unread               argument places from the count on are not read
 -- Assumes nothing.
@@ -17,9 +17,9 @@ use lib.Seq.{getD-take, ext-getD}
 use Rattle.meaning.specs.Context as M
 use Rattle.meaning.specs.Context.{Context, row₀}
 use Rattle.meaning.specs.Columns.{argsAt, rowFrom, rowsFrom, statementsFrom, contextFrom}
+use Rattle.meaning.proofs.Built.{build, build-length, build-at, rows-build}
 use Rattle.ledger.specs.declared.ContextColumns.{ContextColumns}
 use Rattle.columns.specs.Fit.{FitContext}
-use Rattle.columns.proofs.Built.{build, build-length, build-at, rows-build}
 use Rattle.columns.proofs.Flat.{arg-at, args-length}
 use Rattle.records.specs.declared.Row.{Row}
 use Rattle.records.specs.declared.Statements.{Statements}
@@ -135,10 +135,6 @@ module _ (rows : List Row) where
       })
 
   module _ (s : Statements) where
-    pub spread-rows : spreadOf (listOf rows) s .rows ≡ length rows
-    unfolding spreadOf listOf
-    spread-rows = refl
-
     pub spread-over : 255 < length rows → (FitColumns (spreadOf (listOf rows) s) → ⊥) × (FitRows rows s → ⊥)
     unfolding spreadOf listOf
     spread-over h = (λ f. omega (arith, f .rows-few), λ f. omega (arith, f .rows-few))

@@ -11,7 +11,7 @@ use native.Mathlib.Omega.{arith}
 use borrow.Author.Tests.{le-ltb}
 use lib.ListN.{length, getD, take, drop, replicate, length-append, List·getD-append, List·getD-map}
 use lib.Seq.{take-length, length-take-le, getD-take, ext-getD}
-use Rattle.columns.proofs.Built.{build, build-length, build-at}
+use Rattle.meaning.proofs.Built.{build, build-length, build-at}
 use Rattle.records.specs.declared.Row.{Row}
 use Rattle.records.specs.Records.{noRow, fourOf}
 use Rattle.records.specs.Layouts.{room, listOf, flat, recordAt, recordsFrom}

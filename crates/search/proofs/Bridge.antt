@@ -20,13 +20,14 @@ use Rattle.meaning.specs.Formed.{leftOf, rightOf, AllPlaced}
 use Rattle.meaning.specs.ByTable.{sameList}
 use Rattle.meaning.specs.Values.{levels, rowsAt, patternAt, numberAt, argsOf, Numbering, held, isOver, met, numberOf, step, number, stages}
 use Rattle.meaning.specs.FirstBy.{holdsBy, lowest, orElse, tryAll}
+use Rattle.meaning.specs.Pruning.{fails, due}
 use Rattle.meaning.proofs.Box.{Box, Mem}
 use Rattle.meaning.proofs.Levels.{level-variable, rows-at, number-done}
 use Rattle.meaning.proofs.Search.{tryBox, search}
 use Rattle.meaning.proofs.Narrow.{takeFirst}
 use Rattle.meaning.proofs.Prefix.{stages-next}
-use Rattle.meaning.proofs.Pruned.{fails, startBox}
-use Rattle.meaning.proofs.Due.{due, deadNow}
+use Rattle.meaning.proofs.Pruned.{startBox}
+use Rattle.meaning.proofs.Due.{deadNow}
 use Rattle.plan.specs.Planning.{upTo, Arranged}
 use Rattle.values.specs.Reading.{readOf}
 use Rattle.search.specs.Hunting.{stageOf, deadOf, tryEach, enterOf, attemptOf, huntOf, enterFrom, startOf, aloneOf, rowsOf}

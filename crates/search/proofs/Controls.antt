@@ -17,12 +17,10 @@ use Rattle.meaning.specs.Context.{Row, differ, Context, equationsOf, difference
 use Rattle.meaning.specs.Equality.{repAt}
 use Rattle.meaning.specs.Rules.{Pattern, variable, apply, equal, unequal, Clause, variables, Found, found, nothing}
 use Rattle.meaning.specs.ByTable.{apartBy, sameList}
-use Rattle.meaning.specs.Following.{followsBy}
+use Rattle.meaning.specs.Following.{followsBy, widerBy}
 use Rattle.meaning.specs.Values.{Numbering, patternAt, numberOf, step, number, stages, numbers, unread, met, isOver, held, rowsAt, levels, levelsFrom, levelOf, highest}
 use Rattle.meaning.specs.FirstBy.{holdsBy, allHoldBy, lowest, orElse, tryAll, seek, breaks, firstBy}
-use Rattle.meaning.proofs.Progress.{move, total}
-use Rattle.meaning.proofs.Closing.{close, agree, rounds, round, rowsPass, rowPass, statedPass, upto, unite, uniteIf, count}
-use Rattle.meaning.proofs.FollowingNumbers.{widerBy}
+use Rattle.meaning.specs.Closing.{move, total, close, agree, rounds, round, rowsPass, rowPass, statedPass, upto, unite, uniteIf, count}
 use Rattle.plan.specs.Planning.{upTo}
 use Rattle.search.specs.Finding.{foundBy}
 

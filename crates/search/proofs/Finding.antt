@@ -5,7 +5,6 @@
 --     futile-not, futile-by           whether there can be no breach
 --     closes-lent                     the closing and the marks that are lent
 --     finds-one, nexts-one            two answers that meet the contract are equal
---     answer-found, answer-places     what an answer says was found, and its four places
 -- Assumes nothing.
 use mathlib.Core.Bool.{Bool, true, false}
 use mathlib.Core.List.{List, [], _∷_}
@@ -16,14 +15,14 @@ use mir.Syntax.{w16}
 use mir.Val.{Fits}
 use lib.Dec.{eqb}
 use lib.ListN.{length, getD, take, replicate, length-append}
-use lib.Seq.{getD-take, take-append-seam}
+use lib.Seq.{getD-take}
 use Rattle.meaning.specs.Context.{differencesOf}
 use Rattle.meaning.specs.Equality.{repAt}
-use Rattle.meaning.specs.Rules.{Pattern, variables, Clause, Below, Found, found, nothing}
+use Rattle.meaning.specs.Rules.{Pattern, variables, Clause, Below, Found, nothing}
 use Rattle.meaning.specs.ByTable.{clashOf}
 use Rattle.meaning.specs.Columns.{rowsFrom, statementsFrom, patternsFrom, literalsFrom, contextFrom, clauseFrom}
 use Rattle.meaning.specs.Values.{levels, rowsAt}
-use Rattle.meaning.specs.Replies.{placesOf, replyOf}
+use Rattle.meaning.specs.Following.{widerBy}
 use Rattle.meaning.proofs.Logic.{false-true}
 use Rattle.meaning.proofs.Lists.{below-append, below-at}
 use Rattle.meaning.proofs.Levels.{length-levels}
@@ -42,14 +41,14 @@ use Rattle.plan.specs.Plans as P
 use Rattle.plan.proofs.Levels.{ps-length, variables-few}
 use Rattle.plan.proofs.Order.{up-few}
 use Rattle.plan.proofs.Freed.{OfClasses, freed-first, never-none}
-use Rattle.meaning.proofs.FollowingNumbers.{widerBy, widerBy-inside}
+use Rattle.meaning.proofs.FollowingNumbers.{widerBy-inside}
 use Rattle.further.specs.Marks.{MarksOf}
 use Rattle.differing.specs.Knowing.{Lends, ClosedBy}
 use Rattle.differing.proofs.Knowing.{rows-are, unlike}
 use Rattle.search.specs.declared.Reply.{Reply}
 use Rattle.values.specs.Reading.{Listed}
 use Rattle.search.specs.Hunting.{stageOf, deadOf, enterFrom, rowsOf, answerOf, Planned, Ready}
-use Rattle.search.specs.Finding.{foundBy, laterBy, foundOf, nextOf, isClear, Futile, unfitReply, FindsIn, fits, unfits, NextIn, next-fits, next-unfits}
+use Rattle.search.specs.Finding.{foundBy, laterBy, nextOf, isClear, Futile, unfitReply, FindsIn, fits, unfits, NextIn, next-fits, next-unfits}
 use Rattle.search.proofs.Bridge.{order-front, hunt-free}
 use Rattle.search.proofs.Next.{next-none, next-long, next-bump}
 use Rattle.search.proofs.Onward.{hunt-next}
@@ -264,12 +263,3 @@ nexts-one (next-unfits n) (next-fits f g) = absurd (n f g)
 nexts-one (next-unfits n) (next-unfits m) = refl
 
 -- what was answered says what was found, and its places are those of the reply
-pub answer-found : (x : Found) → foundOf (answerOf x .kind) (answerOf x .places) ≡ x
-unfolding answerOf
-answer-found (found a) = ap found (take-append-seam a (replicate (4 - length a) 255))
-answer-found nothing = refl
-
-pub answer-places : (x : Found) → answerOf x .places ≡ placesOf (replyOf x)
-unfolding answerOf placesOf
-answer-places (found a) = refl
-answer-places nothing = refl

@@ -23,10 +23,9 @@ use Rattle.meaning.specs.Context.{Row}
 use Rattle.meaning.specs.Rules.{Pattern, Literal, Found, found, nothing}
 use Rattle.meaning.specs.ByTable.{sameList}
 use Rattle.meaning.specs.FirstBy.{lowest, orElse}
+use Rattle.meaning.specs.Pruning.{fails, due}
 use Rattle.meaning.proofs.Logic.{false-true, or-right}
 use Rattle.meaning.proofs.Lists.{sameList-true, sameList-self}
-use Rattle.meaning.proofs.Pruned.{fails}
-use Rattle.meaning.proofs.Due.{due}
 use Rattle.search.specs.declared.Kind.the-variants.{Breach}
 use Rattle.search.specs.declared.Reply.{Reply}
 use Rattle.values.specs.Chains.{Chained}

@@ -9,17 +9,17 @@
 -- Assumes nothing.
 use mathlib.Core.Bool.{Bool, true, false, _&&_}
 use mathlib.Core.List.{List, [], _∷_}
-use mathlib.Core.Path.{_≡_, refl, ap, sym, _∙_, subst}
+use mathlib.Core.Path.{_≡_, refl, ap, sym, _∙_}
 use mathlib.Core.Logic.{inl, inr, ⊎-elim, _↔_}
 use Prim.Native.Nat.{ℕ, zero, suc, _+_, _-_, _≤_, _<_}
 use native.Mathlib.Omega.{arith}
 use native.Mathlib.Numerals.{add-one}
-use lib.Dec.{eqb, ltb}
+use lib.Dec.{eqb}
 use borrow.Author.Tests.{eqb-true, eqb-false, eq-eqb, ne-eqb, ltb-true, lt-ltb}
 use lib.ListN.{length, getD, set, take, length-set}
 use Rattle.meaning.specs.Context.{Row}
 use Rattle.meaning.specs.Rules.{Clause, variables, Found, nothing, Before, First}
-use Rattle.meaning.specs.FirstBy.{breaks, seek, lowest}
+use Rattle.meaning.specs.FirstBy.{breaks}
 use Rattle.meaning.proofs.Logic.{false-true, and-both, and-true-left, and-true-right}
 use Rattle.meaning.proofs.Order.{Upto, first-one, same-first}
 use Rattle.meaning.proofs.Box.{AllIn}

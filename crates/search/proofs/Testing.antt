@@ -13,9 +13,8 @@ use lib.ListN.{getD}
 use Rattle.meaning.specs.Rules.{Literal}
 use Rattle.meaning.specs.Columns.{literalOf, literalsFrom}
 use Rattle.meaning.specs.FirstBy.{holdsBy}
-use Rattle.meaning.proofs.Pruned.{fails}
-use Rattle.meaning.proofs.Due.{due}
-use Rattle.columns.proofs.Built.{literalAt}
+use Rattle.meaning.specs.Pruning.{fails, due}
+use Rattle.meaning.proofs.Built.{literalAt}
 use Rattle.search.specs.Testing.{passesOf}
 
 or-assoc : (a b c : Bool) → (a || (b || c)) ≡ ((a || b) || c)

@@ -4,26 +4,24 @@
 --     FindsIn, NextIn     the answers to any columns and any table, and any assignment
 --     nextOf              the assignment of n rows that comes next after one
 --     Futile              whether there can be no breach, by p unequal p
---     foundOf             what a kind and four places say that was found
 -- Assumes nothing.
 -- terms outside the table have the numbers from 65,536 on, above every entry of a table
 use mathlib.Core.Bool.{Bool, true, false}
 use mathlib.Core.List.{List, [], _∷_}
 use mathlib.Core.Path.{_≡_}
 use Prim.Native.Nat.{ℕ, _+_, _-_, _<_}
-use lib.ListN.{getD, set, take}
+use lib.ListN.{getD, set}
 use Rattle.meaning.specs.Context.{Context}
 use Rattle.meaning.specs.Equality.{repAt}
-use Rattle.meaning.specs.Rules.{Clause, Found, found, nothing}
+use Rattle.meaning.specs.Rules.{Clause, Found}
 use Rattle.meaning.specs.ByTable.{clear, clashOf}
 use Rattle.meaning.specs.Columns.{contextFrom, clauseFrom}
-use Rattle.meaning.proofs.FollowingNumbers.{widerBy}
+use Rattle.meaning.specs.Following.{widerBy}
 use Rattle.meaning.specs.FirstBy.{firstBy}
 use Rattle.columns.specs.Fit.{FitContext, FitClause}
 use Rattle.closing.specs.declared.Contradiction.{Contradiction}
 use Rattle.closing.specs.declared.Contradiction.the-variants as C
-use Rattle.search.specs.declared.Kind.{Kind}
-use Rattle.search.specs.declared.Kind.the-variants.{Breach, Clear, Unfit}
+use Rattle.search.specs.declared.Kind.the-variants.{Clear, Unfit}
 use Rattle.search.specs.declared.Reply.{Reply}
 use Rattle.meaning.specs.Next.{nextBy}
 use Rattle.search.specs.Hunting.{answerOf}
@@ -48,11 +46,6 @@ isClear C.Clear = true
 pub record Futile (never : Bool) (rep own : ℕ → ℕ) (ds : List (ℕ × ℕ)) (b : Bool) : Type 0 where
   pub low : (i : ℕ) → rep i < 65536
   pub none : b ≡ true → (never ≡ true) × (clashOf own ds ≡ clear)
-
-abbrev pub foundOf : Kind → List ℕ → Found
-foundOf (Breach n) places = found (take n places)
-foundOf Clear places = nothing
-foundOf Unfit places = nothing
 
 pub data FindsIn (symbols counts args : List ℕ) (rows : ℕ) (kinds lefts rights : List ℕ) (statements : ℕ) (table shapes heads arities subs : List ℕ) (patterns : ℕ)
     (signs firsts seconds : List ℕ) (literals : ℕ) : Reply → Type 0 where

@@ -16,8 +16,7 @@ use Rattle.meaning.specs.Context.{Row}
 use Rattle.meaning.specs.Rules.{Pattern, Literal, Found, found, nothing}
 use Rattle.meaning.specs.ByTable.{sameList}
 use Rattle.meaning.specs.FirstBy.{lowest, orElse}
-use Rattle.meaning.proofs.Pruned.{fails}
-use Rattle.meaning.proofs.Due.{due}
+use Rattle.meaning.specs.Pruning.{fails, due}
 use Rattle.columns.specs.Fit.{Laid}
 use Rattle.plan.specs.Planning.{RuleFit}
 use Rattle.search.specs.declared.Kind.{Kind}

@@ -1,14 +1,13 @@
 // The search: variables in order, rows that are their own representatives rising, each literal tried as soon as its last variable is set.
 ghost use mathlib.Core.Path.{_≡_};
 ghost use mathlib.Core.Bool.{_||_};
-ghost use mathlib.Core.List.{List};
 ghost use Prim.Native.Nat.{_+_, _-_, _≤_, _<_};
 ghost use lib.Dec.{eqb};
 ghost use lib.ListN.{set, take, replicate};
-ghost use Rattle.meaning.specs.Rules.{Found, found, nothing};
+ghost use Rattle.meaning.specs.Rules.{found, nothing};
 ghost use Rattle.meaning.specs.Equality.{repAt};
 ghost use Rattle.meaning.specs.Columns.{rowsFrom, patternsFrom, literalsFrom, contextFrom};
-ghost use Rattle.meaning.proofs.FollowingNumbers.{widerBy};
+ghost use Rattle.meaning.specs.Following.{widerBy};
 ghost use Rattle.differing.specs.Knowing.{ClosedBy, Knows};
 ghost use Rattle.search.specs.Hunting.{stageOf, deadOf, startOf, rowsOf, huntOf, enterFrom, NextOwn, answerOf, isBreach, Ready, Hunting, Chosen};
 use crate::Kind;

@@ -18,12 +18,12 @@ use Rattle.meaning.specs.Context.{Row, leftAt, rightAt}
 use Rattle.meaning.specs.Columns.{argsAt, rowsFrom}
 use Rattle.meaning.specs.ByTable.{sameList}
 use Rattle.meaning.specs.GroundColumns.{pairsFrom}
+use Rattle.meaning.specs.Closing.{agree}
 use Rattle.meaning.proofs.Logic.{and-true-right}
 use Rattle.meaning.proofs.Lists.{length-snoc, snoc-at, sameList-true}
 use Rattle.meaning.proofs.Entries.{length-map, map-at}
-use Rattle.meaning.proofs.Closing.{agree}
+use Rattle.meaning.proofs.Built.{rows-at}
 use Rattle.numbering.specs.Keys.{Keyed}
-use Rattle.numbering.proofs.Keying.{rows-at}
 use Rattle.grounding.specs.Draft.{countIn, Wrote, pushed}
 use Rattle.grounding.specs.Classes.{labelIn, State, Left, upto, same, joined}
 use Rattle.grounding.specs.Rounds.{startOne, pairJoined, statedPair, stateOne, stated, argsFrom, oneLabel, oneArgument, sameLabels, argued, congruentBy, congruence, united, pairedApart, paired, rowPassed, passed, rounds}

@@ -9,7 +9,7 @@ ghost use Prim.Native.Nat.{_+_, _*_, _≤_, _<_};
 ghost use lib.ListN.{length};
 ghost use Rattle.meaning.specs.Columns.{rowsFrom};
 ghost use Rattle.meaning.specs.GroundColumns.{pairsFrom};
-ghost use Rattle.meaning.proofs.Closing.{agree as agreed};
+ghost use Rattle.meaning.specs.Closing.{agree as agreed};
 ghost use Rattle.numbering.specs.Keys.{Keyed};
 ghost use Rattle.grounding.specs.Draft.{Wrote};
 ghost use Rattle.grounding.specs.Classes.{Left, upto};

@@ -17,7 +17,7 @@ use Rattle.meaning.specs.Context.{Row, row₀}
 use Rattle.meaning.specs.ByTable.{sameList}
 use Rattle.meaning.specs.Columns.{argsAt, rowFrom, rowsFrom}
 use Rattle.meaning.specs.Values.{held}
-use Rattle.columns.proofs.Built.{build-length, build-at, rows-build}
+use Rattle.meaning.proofs.Built.{build-length, build-at, rows-build}
 use Rattle.values.specs.Chains.{chainOf, Gap, Linked, Chained, Looked}
 
 pub linked-start : (symbols : List ℕ) (n : ℕ) (first next : List ℕ) → n ≤ 255 → first ≡ replicate 256 255 → Linked symbols n n first next

@@ -20,7 +20,7 @@ use Rattle.meaning.specs.Rules.{Pattern}
 use Rattle.meaning.specs.ByTable.{sameList}
 use Rattle.meaning.specs.Columns.{argsAt, patternsFrom}
 use Rattle.meaning.specs.Values.{pattern₀, patternAt, numberAt, argsOf, Numbering, isOver, met, numberOf, step, number}
-use Rattle.columns.proofs.Built.{build-at, patternIn, patterns-build}
+use Rattle.meaning.proofs.Built.{build-at, patternIn, patterns-build}
 use Rattle.columns.proofs.Flat.{pattern-at-variable, pattern-at-symbol, arg-at, args-length}
 use Rattle.values.specs.Chains.{Lined, Looked}
 use Rattle.plan.specs.Planning.{RuleFit}

@@ -1,6 +1,6 @@
 // Chains of the context rows with one symbol, and the look-up of a row by its symbol and its arguments' classes.
 ghost use mathlib.Core.Path.{_≡_};
-ghost use mathlib.Core.Bool.{Bool, _&&_};
+ghost use mathlib.Core.Bool.{_&&_};
 ghost use mathlib.Core.List.{map};
 ghost use Prim.Native.Nat.{_%_, _<_, _≤_};
 ghost use lib.Dec.{eqb};

@@ -6,7 +6,6 @@ ghost use lib.ListN.{getD, take, drop};
 ghost use Rattle.meaning.specs.Equality.{repAt};
 ghost use Rattle.meaning.specs.Columns.{argsAt, rowsFrom, patternOf, patternsFrom};
 ghost use Rattle.meaning.specs.Values.{argsOf, isOver, met as metBy};
-ghost use Rattle.values.specs.Chains.{LedgerFit};
 ghost use Rattle.plan.specs.Planning.{RuleFit};
 ghost use Rattle.values.specs.Reading.{Shaped, Listed, Asked, lookOf, termOf, readOf};
 use crate::size::long;

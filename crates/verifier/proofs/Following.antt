@@ -20,7 +20,7 @@ use Rattle.meaning.specs.Grounds.{Step, stepAt}
 use Rattle.meaning.specs.Checking.{counts, pairedBy, sideOf, usedBy, citedBy, metBy, eachBy, congruentBy, derivesBy, followsBy}
 use Rattle.meaning.specs.GroundColumns.{ownerOf, kindIn, leftRef, rightRef, numbersIn, stepFrom, stepsFrom, sidesOf}
 use Rattle.meaning.proofs.Logic.{and-true-left, and-true-right}
-use Rattle.numbering.proofs.Keying.{rows-at}
+use Rattle.meaning.proofs.Built.{rows-at}
 use Rattle.verifier.proofs.Numbers.{sides-at}
 use Rattle.verifier.proofs.Ways.{and-off}
 use Rattle.verifier.proofs.Running.{steps-shortest}

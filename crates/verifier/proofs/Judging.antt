@@ -25,17 +25,15 @@ use Rattle.meaning.specs.GroundColumns.{stepsFrom, sidesOf, pairsFrom, conclusi
 use Rattle.meaning.proofs.Entries.{length-map, length-entries}
 use Rattle.meaning.proofs.Cited.{Ready}
 use Rattle.meaning.proofs.Verdicts.{verdict-unassigned, all-assigned, verdict-bad, verdict-unconcluded, verdict-accepted}
+use Rattle.meaning.proofs.Built.{length-rows, rows-at, length-patterns, length-literals, literals-at}
 use Rattle.numbering.specs.Keys.{Keyed}
 use Rattle.numbering.specs.Entries.{Filled, Fillable}
 use Rattle.numbering.specs.declared.table.Table.{Table}
-use Rattle.numbering.proofs.Keying.{length-rows, rows-at}
-use Rattle.numbering.proofs.Extending.{length-patterns}
 use Rattle.numbering.specs.Pairs.{pairsOf, Held}
 use Rattle.verifier.specs.Tables.{differsWords, concludesWords, concludedWords}
 use Rattle.verifier.specs.Claims.{WellFormed, Chosen, Long}
 use Rattle.verifier.proofs.Following.{cited-agree, sides-agree}
 use Rattle.verifier.proofs.Running.{steps-shortest}
-use Rattle.verifier.proofs.Owning.{length-literals, literals-at}
 
 -- ---- conclusions in columns
 

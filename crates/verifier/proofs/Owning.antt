@@ -1,44 +1,23 @@
--- Owners and added equations by each way out of the code, and literals in columns.
---     length-literals, literals-at        the literals that columns hold
+-- Owners and added equations by each way out of the code.
 --     owner-literals, added-literals      an owner and an added equation judged by columns are judged by literals
 --     mine                                what the functions of `owners` leave to show
 -- Assumes nothing.
 use mathlib.Core.Bool.{Bool, true, false, not, _&&_, _||_}
-use mathlib.Core.List.{List, []}
-use mathlib.Core.Path.{_≡_, refl, ap, sym, _∙_}
-use Prim.Native.Nat.{ℕ, zero, suc, _+_, _-_, _≤_, _<_}
+use mathlib.Core.List.{List}
+use mathlib.Core.Path.{_≡_, refl, sym, _∙_}
+use Prim.Native.Nat.{ℕ, _+_, _-_, _≤_, _<_}
 use native.Mathlib.Omega.{arith}
-use lib.Dec.{eqb, ltb}
+use lib.Dec.{eqb}
 use borrow.Author.Needs.{needs}
-use borrow.Author.Tests.{eq-eqb, ne-eqb, lt-ltb, le-ltb, le-leb, lt-leb, ltb-true, ltb-false}
-use lib.ListN.{length, getD, List·getD-append}
-use lib.Seq.{getD-at}
-use Rattle.meaning.specs.Grounds.{literal₀, literalAt}
+use borrow.Author.Tests.{eq-eqb, ne-eqb, lt-ltb, le-ltb, le-leb, lt-leb}
+use lib.ListN.{getD}
+use Rattle.meaning.specs.Grounds.{literalAt}
 use Rattle.meaning.specs.Values.{numberAt}
 use Rattle.meaning.specs.Columns.{literalOf, literalsFrom}
 use Rattle.meaning.specs.Checking.{counts, isUnequal, ownerBy, addsBy, addedBy}
 use Rattle.meaning.proofs.Cited.{counts-true}
-use Rattle.meaning.proofs.Lists.{length-snoc}
+use Rattle.meaning.proofs.Built.{length-literals, literals-at}
 use Rattle.verifier.specs.Tables.{ownerWords, addedWords}
-
--- ---- literals in columns
-
-pub length-literals : (signs ls rs : List ℕ) (n : ℕ) → length (literalsFrom signs ls rs n) ≡ n
-unfolding literalsFrom
-length-literals signs ls rs zero = refl
-length-literals signs ls rs (suc n) = length-snoc (literalsFrom signs ls rs n) _ ∙ ap suc (length-literals signs ls rs n)
-
-pub literals-at : (signs ls rs : List ℕ) (n j : ℕ) → j < n → literalAt (literalsFrom signs ls rs n) j ≡ literalOf (getD signs j 0) (getD ls j 0) (getD rs j 0)
-unfolding literalsFrom
-literals-at signs ls rs zero j h = absurd (omega arith)
-literals-at signs ls rs (suc n) j h = go (ltb j n) refl (literals-at signs ls rs n j)
-  where
-    go : (b : Bool) → ltb j n ≡ b → (j < n → literalAt (literalsFrom signs ls rs n) j ≡ literalOf (getD signs j 0) (getD ls j 0) (getD rs j 0))
-        → literalAt (literalsFrom signs ls rs (suc n)) j ≡ literalOf (getD signs j 0) (getD ls j 0) (getD rs j 0)
-    go true e rest = List·getD-append (literalsFrom signs ls rs n) _ literal₀ j (omega (arith, length-literals signs ls rs n, ltb-true j n e)) ∙ rest (ltb-true j n e)
-    go false e rest =
-        let z : j ≡ n = omega (arith, ltb-false j n e) in
-        rw z (getD-at (literalsFrom signs ls rs n) (literalOf (getD signs n 0) (getD ls n 0) (getD rs n 0)) [] literal₀ n (length-literals signs ls rs n))
 
 unequal-sign : (kind p q : ℕ) → isUnequal (literalOf kind p q) ≡ not (eqb kind 6)
 unfolding isUnequal literalOf

@@ -33,7 +33,7 @@ use Rattle.intake.proofs.Filled.{Sized, stored-all}
 use Rattle.intake.proofs.Noting.{notes-count}
 use Rattle.intake.proofs.Standing.{Parsed, words-long}
 use Rattle.verifying.specs.Replies.{bytesOf, printed, column, VerifyPrints, long, many, judges as judged-as}
-use Rattle.verifying.specs.Claims.{Prints, lowest, verdictLine, lineOf, Answered, PrintsFor, over, past, answers}
+use Rattle.verifying.specs.Claims.{Prints, lowest, lineOf, PrintsFor, over, past, answers}
 use Rattle.verifying.specs.declared.Line.{Line}
 
 -- ---- sizes

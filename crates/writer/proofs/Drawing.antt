@@ -18,6 +18,7 @@ use Rattle.meaning.specs.Grounds.{literalAt}
 use Rattle.meaning.specs.Columns.{rowsFrom, statementsFrom, patternsFrom, literalOf, contextFrom, clauseFrom}
 use Rattle.meaning.specs.Checking.{entries, numbered}
 use Rattle.meaning.specs.GroundColumns.{pairsFrom}
+use Rattle.meaning.proofs.Built.{length-rows, length-patterns, length-literals, literals-at}
 use Rattle.ledger.specs.declared.ContextColumns.{ContextColumns}
 use Rattle.ledger.specs.declared.ClauseColumns.{ClauseColumns}
 use Rattle.finder.specs.Claims.{said, asked}
@@ -25,9 +26,6 @@ use Rattle.numbering.specs.Entries.{Filled, Fillable}
 use Rattle.numbering.specs.Pairs.{pairsOf, Held}
 use Rattle.numbering.specs.declared.pairs.Pairs.{Pairs}
 use Rattle.numbering.specs.declared.table.Table.{Table}
-use Rattle.numbering.proofs.Keying.{length-rows}
-use Rattle.numbering.proofs.Extending.{length-patterns}
-use Rattle.verifier.proofs.Owning.{length-literals, literals-at}
 use Rattle.grounding.specs.Classes.{Left}
 use Rattle.grounding.specs.Rounds.{blank, started, stated, rounds}
 use Rattle.grounding.specs.Concluding.{said as sayOf, ownerOf}

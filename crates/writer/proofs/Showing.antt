@@ -24,10 +24,9 @@ use Rattle.numbering.specs.declared.table.Table.{Table}
 use Rattle.grounding.specs.Draft.{countIn, stepOf, stepIn, draft}
 use Rattle.grounding.specs.Concluding.{ownerOf}
 use Rattle.grounding.proofs.Drafts.{Follow, length-draft}
-use Rattle.batches.specs.Sending.{stepsIn as stepsOf}
+use Rattle.batches.specs.Sending.{stepsIn as stepsOf, Small}
 use Rattle.batches.specs.Drawing.{Drawn, drawn, endWritten, Used, by-step, by-end}
 use Rattle.batches.proofs.Marks.{draft-at}
-use Rattle.batches.proofs.Words.{Small}
 use Rattle.batches.proofs.Draws.{Drawing, end-columns}
 use Rattle.batches.proofs.Breaches.{breach-said, breach-start, breach-next, breach-accepted}
 use Rattle.emitting.specs.Emitting.{Kinded}

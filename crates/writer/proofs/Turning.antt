@@ -26,9 +26,8 @@ use Rattle.numbering.specs.declared.table.Table.{Table}
 use Rattle.grounding.specs.Draft.{countIn}
 use Rattle.grounding.specs.Classes.{Left, upto}
 use Rattle.grounding.specs.Concluding.{Said, ownerOf}
-use Rattle.batches.specs.Sending.{newOf, Out, batch}
+use Rattle.batches.specs.Sending.{newOf, Out, batch, Small}
 use Rattle.batches.specs.Drawing.{Drawn, blankDrawn, drawSaid, drawOne, drawnTo}
-use Rattle.batches.proofs.Words.{Small}
 use Rattle.concluding.specs.Saying.{Says}
 use Rattle.emitting.specs.Emitting.{Kinded, Holds, Batched}
 use Rattle.writer.specs.Claims.{most, space, Shown}

@@ -49,7 +49,7 @@ use Rattle.grounding.specs.Classes.{State}
 use Rattle.grounding.specs.Rounds.{started, stated, rounds}
 use Rattle.grounding.specs.Concluding.{Said, said as sayOf, resumed}
 use Rattle.batches.specs.Drawing.{Drawn, blankDrawn, drawOne, drawnTo}
-use Rattle.batches.proofs.Words.{Small}
+use Rattle.batches.specs.Sending.{Small}
 use Rattle.emitting.specs.Emitting.{Kinded, Holds}
 use Rattle.writer.specs.Claims.{most, space, noConclusions, Bare, Shown}
 use Rattle.writer.specs.declared.Hit.{Hit}

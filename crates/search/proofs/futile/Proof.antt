@@ -1,6 +1,6 @@
 -- `search::futile` meets its contract.
 -- Assumes nothing.
-use borrow.Author.Tests.{not-true, not-false}
+use borrow.Author.Tests.{not-false}
 use Rattle.search.proofs.Finding.{futile-not, futile-by}
 use borrow.Author.Needs.{needs}
 use Rattle.search.proofs.futile.Statement.{statement}

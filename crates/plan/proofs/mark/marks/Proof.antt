@@ -3,7 +3,7 @@
 use Prim.Native.Nat.{_≤_, _-_}
 use mathlib.Core.Path.{_≡_, subst}
 use Rattle.meaning.specs.Columns.{patternsFrom}
-use Rattle.meaning.proofs.Free.{touches}
+use Rattle.meaning.specs.Pruning.{touches}
 use Rattle.plan.specs.Marks.{Marked}
 use Rattle.plan.proofs.Levels.{rule-row}
 use Rattle.plan.proofs.Marks.{marks-start, marks-next}

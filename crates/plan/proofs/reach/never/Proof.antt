@@ -4,7 +4,7 @@ use Prim.Native.Nat.{_-_}
 use mathlib.Core.Bool.{false}
 use mathlib.Core.Path.{_≡_, sym, _∙_}
 use Rattle.columns.specs.Fit.{Every}
-use Rattle.columns.proofs.Built.{literalAt}
+use Rattle.meaning.proofs.Built.{literalAt}
 use Rattle.columns.proofs.Deciding.{every-none, every-more}
 use Rattle.plan.specs.Reach.{selfUnequal}
 use Rattle.plan.proofs.Reaching.{never-none, never-some}

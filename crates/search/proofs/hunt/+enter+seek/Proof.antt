@@ -1,11 +1,11 @@
 -- `search::hunt::+enter+seek` meets its contract.
 -- Assumes nothing.
-use Prim.Native.Nat.{_+_, _-_, _*_, _≤_, ℕ, _<_}
-use mathlib.Core.Path.{ap, sym, refl, _∙_}
+use Prim.Native.Nat.{_+_, _-_, _*_, ℕ, _<_}
+use mathlib.Core.Path.{ap, refl, _∙_}
 use borrow.Author.Tests.{not-true, not-false}
 use Rattle.meaning.specs.Equality.{repAt}
 use Rattle.meaning.specs.Columns.{rowsFrom, patternsFrom, literalsFrom, contextFrom}
-use Rattle.meaning.proofs.FollowingNumbers.{widerBy}
+use Rattle.meaning.specs.Following.{widerBy}
 use Rattle.differing.specs.Knowing.{Knows}
 use Rattle.search.specs.Hunting.{stageOf, deadOf, rowsOf, attemptOf, huntOf, answerOf}
 use Rattle.search.proofs.Hunting.{Trying, trying-start, trying-found, trying-next, trying-done, enter-dead, enter-live, planned-listed, planned-rises, chosen-next, hunt-leaf, attempt-enter}

@@ -6,9 +6,9 @@ use mathlib.Core.Path.{_≡_, sym, _∙_}
 use lib.ListN.{getD}
 use borrow.Author.Tests.{not-true, not-false}
 use Rattle.meaning.specs.Columns.{literalOf, contextFrom}
-use Rattle.meaning.proofs.FollowingNumbers.{widerBy}
+use Rattle.meaning.specs.Following.{widerBy}
 use Rattle.differing.specs.Knowing.{Knows}
-use Rattle.meaning.proofs.Due.{due}
+use Rattle.meaning.specs.Pruning.{due}
 use Rattle.columns.specs.Fit.{Every}
 use Rattle.columns.proofs.Deciding.{every-none, every-more}
 use Rattle.search.specs.Testing.{passesOf}

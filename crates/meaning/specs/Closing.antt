@@ -1,15 +1,33 @@
 -- The closing of a table, as a function on lists: the list has each row's representative, and a round merges the rows of each stated equation and
 -- each two rows that agree, till a round changes nothing.
+--     Sofar                                 what holds of the representatives from the start to the end
+--     move, unite, agree, uniteIf, upto     one merge, and so many steps
+--     statedPass, rowsPass, round, rounds   a pass over the equations, one over the rows, both, and so often
+--     count, total, close                   own numbers, the sum of the representatives, and the closing
 -- Assumes nothing.
 use mathlib.Core.Bool.{Bool, true, false, _&&_}
 use mathlib.Core.List.{List, [], _∷_, map}
-use Prim.Native.Nat.{ℕ, zero, suc}
+use mathlib.Core.Path.{_≡_}
+use Prim.Native.Nat.{ℕ, zero, suc, _+_, _≤_, _<_}
 use lib.Dec.{eqb, ltb}
 use lib.ListN.{length}
-use Rattle.meaning.specs.Context.{Row, rowAt, leftAt, rightAt}
-use Rattle.meaning.specs.Equality.{repAt}
+use Rattle.meaning.specs.Context.{Row, rowAt, termAt, leftAt, rightAt}
+use Rattle.meaning.specs.Equality.{Equal, repAt}
 use Rattle.meaning.specs.ByTable.{sameList}
-use Rattle.meaning.proofs.Progress.{move, total}
+
+-- what holds of the representatives from the start to the end
+pub record Sofar (rows : List Row) (eqs : List (ℕ × ℕ)) (rep : ℕ → ℕ) : Type 0 where
+  pub low : (i : ℕ) → i < length rows → rep i ≤ i
+  pub settled : (i : ℕ) → i < length rows → rep (rep i) ≡ rep i
+  pub sound : (i : ℕ) → i < length rows → Equal rows eqs (termAt rows i) (termAt rows (rep i))
+
+-- the representative `hi` gives way to `lo`
+unfoldable pub move : ℕ → ℕ → ℕ → ℕ
+move lo hi x = elim (eqb x hi) [ true ↦ lo | false ↦ x ]
+
+unfoldable pub total : ℕ → (ℕ → ℕ) → ℕ
+total zero rep = 0
+total (suc n) rep = rep n + total n rep
 
 -- the classes of rows i and j become one, under the lower representative
 unfoldable pub unite : ℕ → ℕ → List ℕ → List ℕ
