@@ -16,7 +16,7 @@ use Rattle.meaning.specs.Rules.{Pattern, variable, apply, Literal, equal, Below
 use Rattle.meaning.specs.Formed.{Ordered, Within, Placed, AllPlaced, Names, NamesAll}
 use Rattle.meaning.specs.Columns.{argsAt, rowFrom, rowsFrom, statementOf, statementsFrom, contextFrom, patternOf, patternsFrom, literalOf, literalsFrom}
 use Rattle.meaning.proofs.Lists.{below-at}
-use Rattle.meaning.proofs.Built.{build, build-length, build-at, statementAt, literalAt, patternIn, rows-build, statements-build, patterns-build, literals-build}
+use Rattle.meaning.proofs.Built.{build, build-length, build-at, statementAt, literalAt, patternIn, rows-build, statements-build, patterns-build, literals-build, length-rows}
 use Rattle.columns.specs.Fit.{Decides, Every, Earlier, PlacedAt, NamedAt, PatternAt, FitContext, FitClause}
 
 below-of : (n : ℕ) (l : List ℕ) → ((k : ℕ) → k < length l → getD l k 0 < n) → Below n l
@@ -147,7 +147,7 @@ module _ (symbols counts args : List ℕ) (rows : ℕ) (kinds lefts rights : Lis
   unfolding contextFrom
   context-fit r s p q =
       let a : AllSided rows (statementsFrom kinds lefts rights statements) = statements-sided kinds lefts rights rows statements q in
-      let e : length (rowsFrom symbols counts args rows) ≡ rows = rw (rows-build symbols counts args rows) (build-length (rowFrom symbols counts args) rows) in
+      let e : length (rowsFrom symbols counts args rows) ≡ rows = length-rows symbols counts args rows in
       record {
         rows-few = r;
         statements-few = s;
@@ -167,7 +167,7 @@ module _ (symbols counts args : List ℕ) (rows : ℕ) (kinds lefts rights : Lis
     pub fit-statements : Every statements (NamedAt lefts rights rows)
     unfolding contextFrom
     fit-statements =
-        let e : length (rowsFrom symbols counts args rows) ≡ rows = rw (rows-build symbols counts args rows) (build-length (rowFrom symbols counts args) rows) in
+        let e : length (rowsFrom symbols counts args rows) ≡ rows = length-rows symbols counts args rows in
         sided-statements kinds lefts rights rows statements
         (within-sided rows (statementsFrom kinds lefts rights statements) (rw e at (f .fit .within)) (rw e at (f .fit .apart)))
 

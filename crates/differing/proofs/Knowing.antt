@@ -21,12 +21,12 @@ use borrow.Author.Needs.{needs}
 use Rattle.meaning.specs.Context.{Context, differencesOf}
 use Rattle.meaning.specs.Equality.{repAt, reflexive}
 use Rattle.meaning.specs.ByTable.{clear, clashOf}
-use Rattle.meaning.specs.Columns.{rowFrom, statementsFrom, contextFrom}
+use Rattle.meaning.specs.Columns.{statementsFrom, contextFrom}
 use Rattle.meaning.specs.Following.{widerBy}
 use Rattle.meaning.proofs.Apartness.{clash-clear}
 use Rattle.meaning.proofs.Following.{consistent-wider}
 use Rattle.meaning.proofs.FollowingNumbers.{widerBy-rows, widerBy-inside, widerBy-outside, widerBy-symmetric}
-use Rattle.meaning.proofs.Built.{build-length, rows-build}
+use Rattle.meaning.proofs.Built.{length-rows}
 use Rattle.columns.specs.Fit.{Laid, FitContext}
 use Rattle.further.specs.Claims.{FitRows, Orderly, ClashesWith}
 use Rattle.further.proofs.Standing.{promise-orderly}
@@ -74,7 +74,7 @@ module _ (symbols counts args : List ℕ) (rows : ℕ) (kinds lefts rights : Lis
 
   pub rows-are : length (c .rows) ≡ rows
   unfolding contextFrom
-  rows-are = rw (rows-build symbols counts args rows) (build-length (rowFrom symbols counts args) rows)
+  rows-are = length-rows symbols counts args rows
 
   pub outside-left : (n m x : ℕ) → x ≡ n → rows ≤ x → false ≡ widerBy c n m
   outside-left n m x e h = sym (widerBy-outside c n m (inl (omega (arith, rows-are))))

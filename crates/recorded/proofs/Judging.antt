@@ -24,7 +24,7 @@ use Rattle.meaning.specs.Replies as M
 use Rattle.meaning.specs.Replies.{breach, none, refused, refusal, replyOf, placesOf, Judged}
 use Rattle.meaning.proofs.Computed.{verdict}
 use Rattle.meaning.proofs.Answered.{verdict-judged}
-use Rattle.meaning.proofs.Built.{build-length, patternIn, patterns-build, literalAt, literals-build}
+use Rattle.meaning.proofs.Built.{length-patterns, length-literals}
 use Rattle.columns.specs.Fit.{Decides, FitContext, FitClause}
 use Rattle.columns.proofs.Deciding.{decides-not}
 use Rattle.ledger.specs.declared.ContextColumns.{ContextColumns}
@@ -80,13 +80,13 @@ fits-formed c k f r =
       placed = r .fit .placed;
       named =
           subst (λ (n : ℕ). NamesAll n (literalsFrom (k .signs) (k .lefts) (k .rights) (k .literals)))
-          (sym (ap length (patterns-build (k .kinds) (k .heads) (k .counts) (k .args) (k .patterns)) ∙ build-length (patternIn (k .kinds) (k .heads) (k .counts) (k .args)) (k .patterns)))
+          (sym (length-patterns (k .kinds) (k .heads) (k .counts) (k .args) (k .patterns)))
           (r .fit .named);
     }
 
 literals-long : (k : ClauseColumns) → length (asked k .literals) ≡ k .literals
 unfolding clauseFrom
-literals-long k = ap length (literals-build (k .signs) (k .lefts) (k .rights) (k .literals)) ∙ build-length (literalAt (k .signs) (k .lefts) (k .rights)) (k .literals)
+literals-long k = length-literals (k .signs) (k .lefts) (k .rights) (k .literals)
 
 -- the refusal, or what was found
 abbrev ruling : Answer → Found → M.Reply

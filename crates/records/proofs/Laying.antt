@@ -4,7 +4,7 @@
 --     Gathered, gather-start .. gather-done     and records that hold the first i rows of columns
 --     mine                                      what a search in the functions' proofs is handed
 -- Assumes nothing.
-use mathlib.Core.List.{List, [], _∷_, _++_, map, append-assoc}
+use mathlib.Core.List.{List, [], _∷_, _++_, map, map-append, append-assoc}
 use mathlib.Core.Path.{_≡_, refl, sym, ap, _∙_}
 use Prim.Native.Nat.{ℕ, suc, _+_, _*_, _≤_, _<_}
 use native.Mathlib.Numerals.{add-one}
@@ -38,10 +38,6 @@ pub record Gathered (c : ContextColumns) (rows : List Row) (i : ℕ) : Type 0 wh
 
 -- ---- one more row
 
-map-snoc : {A B : Type 0} (f : A → B) (l : List A) (a : A) → map f (l ++ (a ∷ [])) ≡ map f l ++ (f a ∷ [])
-map-snoc f [] a = refl
-map-snoc f (b ∷ l) a = ap (f b ∷_) (map-snoc f l a)
-
 flat-snoc : (l : List Row) (r : Row) → flat (l ++ (r ∷ [])) ≡ flat l ++ fourOf r
 unfolding flat
 flat-snoc [] r = refl
@@ -49,7 +45,7 @@ flat-snoc (q ∷ l) r = ap (fourOf q ++_) (flat-snoc l r)
 
 column-step : (f : Row → ℕ) (rows : List Row) (column : List ℕ) (i : ℕ) (d : Row) → i < length rows → i < length column
     → take i column ≡ map f (take i rows) → take (i + 1) (set column i (f (getD rows i d))) ≡ map f (take (i + 1) rows)
-column-step f rows column i d h k e = rw (add-one, take-suc-set column i (f (getD rows i d)) k, take-suc rows i d h, map-snoc, e)
+column-step f rows column i d h k e = rw (add-one, take-suc-set column i (f (getD rows i d)) k, take-suc rows i d h, map-append, e)
 
 -- a place written is the last of those up to it
 placed : (l : List ℕ) (n m a : ℕ) → m ≡ suc n → n < length l → take m (set l n a) ≡ take n l ++ (a ∷ [])

@@ -17,7 +17,7 @@ use lib.Seq.{getD-take, ext-getD}
 use Rattle.meaning.specs.Context as M
 use Rattle.meaning.specs.Context.{Context, row₀}
 use Rattle.meaning.specs.Columns.{argsAt, rowFrom, rowsFrom, statementsFrom, contextFrom}
-use Rattle.meaning.proofs.Built.{build, build-length, build-at, rows-build}
+use Rattle.meaning.proofs.Built.{length-rows, rows-at}
 use Rattle.ledger.specs.declared.ContextColumns.{ContextColumns}
 use Rattle.columns.specs.Fit.{FitContext}
 use Rattle.columns.proofs.Flat.{arg-at, args-length}
@@ -50,11 +50,9 @@ module _ (rows : List Row) (symbols counts args : List ℕ) (n : ℕ) (h : Holds
 
   holds-rows : rowsFrom symbols counts args n ≡ map rowOf rows
   holds-rows =
-      rw (rows-build symbols counts args n)
-      (ext-getD row₀ (build (rowFrom symbols counts args) n) (map rowOf rows)
-      (omega (arith, build-length (rowFrom symbols counts args) n, length-map rows rowOf, h .many)) (λ i k.
-      let l : i < n = omega (arith, build-length (rowFrom symbols counts args) n) in
-      build-at (rowFrom symbols counts args) n i row₀ l ∙ holds-row i l ∙ sym (List·getD-map rowOf rows i noRow)))
+      ext-getD row₀ (rowsFrom symbols counts args n) (map rowOf rows) (omega (arith, length-rows symbols counts args n, length-map rows rowOf, h .many)) (λ i k.
+      let l : i < n = omega (arith, length-rows symbols counts args n) in
+      rows-at symbols counts args n i l ∙ holds-row i l ∙ sym (List·getD-map rowOf rows i noRow))
 
   pub holds-context : (s : Statements) → contextFrom symbols counts args n (s .kinds) (s .lefts) (s .rights) (s .count) ≡ contextOf rows s
   unfolding contextFrom contextOf

@@ -17,7 +17,7 @@ use Rattle.meaning.specs.Context.{Row, row₀}
 use Rattle.meaning.specs.ByTable.{sameList}
 use Rattle.meaning.specs.Columns.{argsAt, rowFrom, rowsFrom}
 use Rattle.meaning.specs.Values.{held}
-use Rattle.meaning.proofs.Built.{build-length, build-at, rows-build}
+use Rattle.meaning.proofs.Built.{length-rows, rows-at}
 use Rattle.values.specs.Chains.{chainOf, Gap, Linked, Chained, Looked}
 
 pub linked-start : (symbols : List ℕ) (n : ℕ) (first next : List ℕ) → n ≤ 255 → first ≡ replicate 256 255 → Linked symbols n n first next
@@ -77,12 +77,12 @@ module _ (symbols counts args : List ℕ) (n : ℕ) (rep : ℕ → ℕ) (f : ℕ
   fits i = eqb f (getD symbols i 0) && sameList ns (map rep (argsAt counts args i))
 
   rows-length : length rows ≡ n
-  rows-length = rw (rows-build symbols counts args n) (build-length (rowFrom symbols counts args) n)
+  rows-length = length-rows symbols counts args n
 
   rows-from : (i : ℕ) → i < n → drop i rows ≡ rowFrom symbols counts args i ∷ drop (suc i) rows
   rows-from i h =
       drop-cons rows i row₀ (omega (arith, rows-length))
-      ∙ ap (_∷ drop (suc i) rows) (rw (rows-build symbols counts args n) (build-at (rowFrom symbols counts args) n i row₀ h))
+      ∙ ap (_∷ drop (suc i) rows) (rows-at symbols counts args n i h)
 
   held-hit : (d i : ℕ) → i < n → fits i ≡ true → held rep f ns d i (drop i rows) ≡ rep i
   unfolding held

@@ -20,7 +20,7 @@ use Rattle.meaning.specs.Rules.{Pattern}
 use Rattle.meaning.specs.ByTable.{sameList}
 use Rattle.meaning.specs.Columns.{argsAt, patternsFrom}
 use Rattle.meaning.specs.Values.{pattern₀, patternAt, numberAt, argsOf, Numbering, isOver, met, numberOf, step, number}
-use Rattle.meaning.proofs.Built.{build-at, patternIn, patterns-build}
+use Rattle.meaning.proofs.Built.{patternIn, patterns-at}
 use Rattle.columns.proofs.Flat.{pattern-at-variable, pattern-at-symbol, arg-at, args-length}
 use Rattle.values.specs.Chains.{Lined, Looked}
 use Rattle.plan.specs.Planning.{RuleFit}
@@ -45,7 +45,7 @@ module _ {shapes heads arities subs : List ℕ} {q count : ℕ} (s : Shaped shap
 pub pattern-row : (shapes heads arities subs : List ℕ) (n q : ℕ) → q < n
     → patternAt (patternsFrom shapes heads arities subs n) q ≡ patternIn shapes heads arities subs q
 pattern-row shapes heads arities subs n q h =
-    rw (patterns-build shapes heads arities subs n) (build-at (patternIn shapes heads arities subs) n q pattern₀ h)
+    patterns-at shapes heads arities subs n q pattern₀ h
 
 pub rule-shaped : {shapes heads arities subs : List ℕ} {n : ℕ} → RuleFit shapes heads arities subs n → (q count : ℕ) → q < n → count ≤ 4
     → Shaped shapes heads arities subs q count
