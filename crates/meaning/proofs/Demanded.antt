@@ -1,7 +1,7 @@
 -- The computed normaliser meets demand 3.
 --     clear-of       a context that does not contradict itself has no clash
 --     tells-one      what the normaliser gives for a text is its normal text
---     keeps-meaning  normal texts agree just where contexts are alike, are their own normal texts, and keep every rule's reply
+--     keeps-meaning  there are normal texts, and they agree just where contexts are alike, are their own normal texts, and keep every rule's reply
 -- Assumes nothing.
 use mathlib.Core.List.{List, _++_, map}
 use mathlib.Core.Path.{_≡_, refl, ap, sym, _∙_, subst, subst₂}
@@ -161,6 +161,7 @@ module _ (s u w : List ℕ) (c d : Context) (bare : Bare s c) (g : Gives normali
 pub keeps-meaning : KeepsMeaning normalise
 keeps-meaning =
     record {
+      gives = λ s c t. (normalTextOf c, tells-gives s c t);
       agree = texts-agree;
       twice = λ s u c t g. text-twice s c t u g;
       rules = rules-keep;

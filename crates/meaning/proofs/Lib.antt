@@ -53,6 +53,7 @@ pub mod Answered
 pub mod ListingPrints
 pub mod Sheet
 pub mod ListingSheet
+pub mod Rightly
 pub mod Controls
 pub mod BadBytes
 pub mod Grounded

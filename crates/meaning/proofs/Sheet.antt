@@ -11,20 +11,21 @@ use lib.ListN.{length}
 use Rattle.meaning.specs.Context.{equations, Context, equationsOf, differencesOf}
 use Rattle.meaning.specs.Rules.{variables}
 use Rattle.meaning.specs.Text.{Reading, faulty, taken, rowsOf, read, narrow, readLines, linesOf, linesFrom, digit, fields, isListed, listedAs, sizeOf, entryOf, rankOf, putContext, put, putClause, firstFailing, isNowhere, nonDigit, legible, known, sized, ranked, room, namedBy, tableOf, noRow, refers, rowsAgree, patternsAgree, agrees, testsOf, firstFault, spotOr, badByte, namesFrom, badField, offsetOf}
-use Rattle.meaning.specs.Replies.{Reply, breach, none, refused, Replies}
+use Rattle.meaning.specs.Writing.{digitOf, hex, frame, rowsText, statementsText, contextText, joins, sooner, insert, sorted, normalOf}
+use Rattle.meaning.specs.Replies.{Reply, breach, none, refused, Replies, Normalised, normal, abnormal, Normalises}
 use Rattle.meaning.specs.Formed.{Fit}
 use Rattle.meaning.specs.ByTable.{sameList, clashOf, clashFrom}
 use Rattle.meaning.specs.Values.{numbers, number, stages, step, numberOf, met, isOver, held, rowsAt, levels, levelsFrom, levelOf, highest}
 use Rattle.meaning.specs.Following.{followsBy, widerBy}
 use Rattle.meaning.specs.FirstBy.{firstBy, seek, tryAll, orElse, lowest, breaks, allHoldBy, holdsBy}
-use Rattle.meaning.specs.Sheet.{Example, gets, bytes, represents, equates, Shown, AllShown, sheet, further, fault, bytesNamed}
+use Rattle.meaning.specs.Sheet.{Example, gets, bytes, normalises, represents, equates, Shown, AllShown, sheet, further, fault, bytesNamed}
 use Rattle.meaning.specs.Closing.{move, total, close, agree, rounds, round, rowsPass, rowPass, statedPass, upto, unite, uniteIf, count}
 use Rattle.meaning.proofs.Logic.{and-true-left, and-true-right}
 use Rattle.meaning.proofs.Lists.{sameList-true}
 use Rattle.meaning.proofs.Promised.{model-rows, closing-promise, closing-represents}
 use Rattle.meaning.proofs.Taken.{read-formed}
-use Rattle.meaning.proofs.Computed.{repOf, replyTo, replyOn, judge, verdict}
-use Rattle.meaning.proofs.Answered.{replyTo-replies}
+use Rattle.meaning.proofs.Computed.{repOf, replyTo, replyOn, judge, verdict, normalOn, settled}
+use Rattle.meaning.proofs.Answered.{replyTo-replies, normalOn-normalises}
 
 unfoldable sameReply : Reply → Reply → Bool
 sameReply (breach l) (breach m) = sameList l m
@@ -56,6 +57,15 @@ same-reply (refused r) (refused s) t =
     let o : r .offset ≡ s .offset = eqb-true _ _ (and-true-right (a && b) c t) in
     ap₂ (λ (x y : ℕ). refused (fault x y (r .offset))) n p ∙ ap (λ (z : ℕ). refused (fault (s .number) (s .place) z)) o
 
+unfoldable sameText : Normalised → List ℕ → Bool
+sameText (normal l) m = sameList l m
+sameText (abnormal r) m = false
+
+same-text : (x : Normalised) (m : List ℕ) → sameText x m ≡ true → x ≡ normal m
+unfolding sameText
+same-text (normal l) m t = ap normal (sameList-true l m t)
+same-text (abnormal r) m t = cc
+
 unfoldable represented : List ℕ → Reading → Bool
 represented l (faulty f) = false
 represented l (taken s) = sameList (close (rowsOf s) (equations (s .ledger .context))) l
@@ -67,17 +77,20 @@ equated i j (taken s) =
 
 unfoldable test : Example → Bool
 test (gets text r) = sameReply (replyTo (bytes text)) r
+test (normalises text n) = sameText (normalOn (read narrow (bytes text))) (bytes n)
 test (represents text l) = represented l (read narrow (bytes text))
 test (equates text i j) = equated i j (read narrow (bytes text))
 
 unfoldable tests : List Example → Bool
-unfolding sameReply represented equated test bytes replyTo replyOn judge verdict clashOf clashFrom read readLines linesOf linesFrom digit fields isListed listedAs sizeOf entryOf rankOf putContext putClause put firstFailing isNowhere nonDigit legible known sized ranked room namedBy tableOf noRow refers rowsAgree patternsAgree agrees testsOf firstFault spotOr badByte namesFrom badField offsetOf equationsOf differencesOf firstBy seek tryAll orElse lowest breaks allHoldBy holdsBy numbers stages number step numberOf met isOver held rowsAt levels levelsFrom levelOf highest widerBy followsBy sameList variables close rounds round rowsPass rowPass statedPass upto uniteIf agree unite count move total
+unfolding sameReply sameText represented equated test bytes normalOn settled contextText rowsText statementsText frame hex digitOf normalOf joins sorted insert sooner replyTo replyOn judge verdict clashOf clashFrom read readLines linesOf linesFrom digit fields isListed listedAs sizeOf entryOf rankOf putContext putClause put firstFailing isNowhere nonDigit legible known sized ranked room namedBy tableOf noRow refers rowsAgree patternsAgree agrees testsOf firstFault spotOr badByte namesFrom badField offsetOf equationsOf differencesOf firstBy seek tryAll orElse lowest breaks allHoldBy holdsBy numbers stages number step numberOf met isOver held rowsAt levels levelsFrom levelOf highest widerBy followsBy sameList variables close rounds round rowsPass rowPass statedPass upto uniteIf agree unite count move total
 tests [] = true
 tests (e ∷ es) = test e && tests es
 
 shown : (e : Example) → test e ≡ true → Shown e
 unfolding test represented equated
 shown (gets text r) t = subst (Replies narrow (bytes text)) (same-reply (replyTo (bytes text)) r t) (replyTo-replies (bytes text))
+shown (normalises text n) t =
+    subst (Normalises narrow (bytes text)) (same-text (normalOn (read narrow (bytes text))) (bytes n) t) (normalOn-normalises (bytes text))
 shown (represents text l) t = go (read narrow (bytes text)) refl t
   where
     go : (x : Reading) → read narrow (bytes text) ≡ x → represented l x ≡ true → Shown (represents text l)

@@ -1,7 +1,7 @@
 -- The three demands, of any candidate: a finder takes a text to a reply, a normaliser a text and a lent space to an answer and the space.
 --     RefusesRightly, LeavesRightly  demand 1: each refusal exactly where the list has it, and then no lent byte is written
 --     FindsFirst                     demand 2: the first breach exactly where it is one, none exactly when there is none; differences follow
---     KeepsMeaning                   demand 3: which normal texts agree, by what is equal and what is kept apart; normalising twice; one reply for every rule
+--     KeepsMeaning                   demand 3: there is a normal text; which ones agree, by what is equal and what is kept apart; normalising twice; one reply for every rule
 -- Assumes nothing.
 use mathlib.Core.List.{List, [], _++_}
 use mathlib.Core.Path.{_≡_}
@@ -59,6 +59,8 @@ pub record Bare (text : List ℕ) (c : Context) : Type 0 where
   pub bare : tells .all .clause ≡ clauseOf [] []
 
 pub record KeepsMeaning (n : Normaliser) : Type 0 where
+  -- each such text has a normal text
+  pub gives : (s : List ℕ) (c : Context) → Tells s c → (u : List ℕ) × Gives n s u
   -- a: with the same rows, two normal texts agree exactly when the same rows are equal and the same are kept apart
   pub agree : (s t u v : List ℕ) (c d : Context) → Tells s c → Tells t d → c .rows ≡ d .rows → Gives n s u → Gives n t v → (u ≡ v) ↔ Alike c d
   -- b: a normal text is a text, and is its own normal text

@@ -1,8 +1,9 @@
 -- The sheet of worked examples: texts with what the definitions say of them.
---     Example, Shown     a text with the finder's reply, with its rows' representatives, or with two rows that are equal
---     sheet              the twelve cases of the rule paper
---     further            cases that show what is easily got wrong
---     bytesNamed         refused lines with the byte that the refusal names
+--     Example, Shown          a text with the finder's reply, with its normal text, with its rows' representatives, or with two rows that are equal
+--     lullaby, chosenTwice    the texts of the first two cases
+--     sheet                   the twelve cases of the rule paper
+--     further                 cases that show what is easily got wrong
+--     bytesNamed              refused lines with the byte that the refusal names
 -- Assumes nothing.
 use mathlib.Core.List.{List, [], _∷_}
 use mathlib.Core.Path.{_≡_}
@@ -13,7 +14,7 @@ use lib.ListN.{length}
 use Rattle.meaning.specs.Context.{termAt}
 use Rattle.meaning.specs.Equality.{EqualIn, Representatives, repAt}
 use Rattle.meaning.specs.Text.{narrow, Read, Refusal, rowsOf, taken, read}
-use Rattle.meaning.specs.Replies.{refusal, Reply, breach, none, refused, Replies}
+use Rattle.meaning.specs.Replies.{refusal, Reply, breach, none, refused, Replies, normal, Normalises}
 
 -- the bytes of a quoted text whose characters are ASCII
 unfoldable pub bytes : S.String → List ℕ
@@ -22,11 +23,13 @@ bytes (S._∷_ c s) = code c ∷ bytes s
 
 pub data Example : Type 0 where
   gets : S.String → Reply → Example
+  normalises : S.String → S.String → Example
   represents : S.String → List ℕ → Example
   equates : S.String → ℕ → ℕ → Example
 
 abbrev pub Shown : Example → Type 0
 Shown (gets text r) = Replies narrow (bytes text) r
+Shown (normalises text n) = Normalises narrow (bytes text) (normal (bytes n))
 Shown (represents text l) =
     (s : Read) × (read narrow (bytes text) ≡ taken s) × (length l ≡ length (rowsOf s)) × Representatives (s .ledger .context) (repAt l)
 Shown (equates text i j) =
@@ -40,16 +43,24 @@ abbrev pub AllShown : List Example → Type 0
 AllShown [] = Unit {0}
 AllShown (e ∷ es) = Shown e × AllShown es
 
+-- the texts of P1 and P2
+abbrev pub lullaby : S.String
+lullaby =
+    "01001000\n01001100\n01001200\n01001300\n0100200100\n0100210100\n0100210101\n020401\n020503\n020602\n030203\n0400\n0401\n0500200100\n0500210100\n0500210101\n060201\n070304\n"
+
+abbrev pub chosenTwice : S.String
+chosenTwice =
+    "01000100\n01000200\n01000300\n0101010102\n0101010100\n0101010101\n020300\n020401\n030405\n0400\n0401\n0501010100\n05000100\n0501010101\n05000200\n060203\n070405\n"
+
 unfoldable pub sheet : List Example
 sheet =
-    -- P1: the lullaby
-    gets
-    "01001000\n01001100\n01001200\n01001300\n0100200100\n0100210100\n0100210101\n020401\n020503\n020602\n030203\n0400\n0401\n0500200100\n0500210100\n0500210101\n060201\n070304\n"
-    (breach (0 ∷ 1 ∷ []))
+    -- P1: the lullaby, and its normal text
+    gets lullaby (breach (0 ∷ 1 ∷ []))
+    ∷ normalises
+    lullaby
+    "01001000\n01001100\n01001200\n01001300\n0100200100\n0100210100\n0100210101\n020104\n020305\n020206\n030203\n"
     -- P2: f(c) = a, f(a) = b, f(a) and f(b) differ; f(x) = a, f(y) unequal b
-    ∷ gets
-    "01000100\n01000200\n01000300\n0101010102\n0101010100\n0101010101\n020300\n020401\n030405\n0400\n0401\n0501010100\n05000100\n0501010101\n05000200\n060203\n070405\n"
-    (breach (2 ∷ 1 ∷ []))
+    ∷ gets chosenTwice (breach (2 ∷ 1 ∷ []))
     -- P3: P2 without the difference
     ∷ gets
     "01000100\n01000200\n01000300\n0101010102\n0101010100\n0101010101\n020300\n020401\n0400\n0401\n0501010100\n05000100\n0501010101\n05000200\n060203\n070405\n"
