@@ -1,6 +1,6 @@
 -- The listing program's output tried on small texts, by computing: what it has to print, and wrong outputs that are shut out.
 --     outputs, outputs-shown    texts with their outputs
---     wrongs, wrongs-shown      a breach left out, a breach twice, a row that is no representative, the wrong order, no `09`, a `09` behind a refusal
+--     wrongs, wrongs-shown      nothing, no breach, a breach left out, a breach twice, a row that is no representative, the wrong order, no `09`, a `09` behind a refusal
 -- Assumes nothing.
 use mathlib.Core.Bool.{Bool, true, not, _&&_}
 use mathlib.Core.List.{List, [], _∷_}
@@ -81,7 +81,9 @@ outputs =
 
 unfoldable pub wrongs : List Case
 wrongs =
-    ("01000100\n01000200\n01000300\n020102\n0400\n060000\n", "080100\n09\n")
+    ("01000100\n01000200\n01000300\n020102\n0400\n060000\n", "")
+    ∷ ("01000100\n01000200\n01000300\n020102\n0400\n060000\n", "09\n")
+    ∷ ("01000100\n01000200\n01000300\n020102\n0400\n060000\n", "080100\n09\n")
     ∷ ("01000100\n01000200\n01000300\n020102\n0400\n060000\n", "080100\n080101\n080101\n09\n")
     ∷ ("01000100\n01000200\n01000300\n020102\n0400\n060000\n", "080100\n080101\n080102\n09\n")
     ∷ ("01000100\n01000200\n01000300\n020102\n0400\n060000\n", "080101\n080100\n09\n")
