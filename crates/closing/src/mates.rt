@@ -42,7 +42,7 @@ fn same_args<'a>(
 }
 
 // Whether rows i and j have one symbol, and arguments with the same representatives.
-pub fn agree<'a>(
+pub(crate) fn agree<'a>(
     symbols: &'a [u16; 255],
     counts: &'a [u8; 255],
     args: &'a [u16; 1020],
@@ -87,7 +87,7 @@ fn mixed<'a>(
 }
 
 // The chain of row i: rows with one symbol, and arguments with the same representatives, have one chain.
-pub fn chain<'a>(
+pub(crate) fn chain<'a>(
     symbols: &'a [u16; 255],
     counts: &'a [u8; 255],
     args: &'a [u16; 1020],
@@ -159,13 +159,13 @@ fn join_row<'a>(
     }
 }
 
-pub fn no_heads() -> [u16; 256]
+pub(crate) fn no_heads() -> [u16; 256]
     ensures { λ r. ⌜ r ≡ replicate 256 0 ⌝ }
 {
     [0; 256]
 }
 
-pub fn no_rows() -> [u16; 255]
+pub(crate) fn no_rows() -> [u16; 255]
     ensures { λ r. ⌜ r ≡ replicate 255 0 ⌝ }
 {
     [0; 255]

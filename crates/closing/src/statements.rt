@@ -24,7 +24,7 @@ fn state<'a>(
 }
 
 // The rows of each stated equation get one representative.
-pub fn join_stated<'a>(
+pub(crate) fn join_stated<'a>(
     kinds: &'a [u8; 510],
     lefts: &'a [u16; 510],
     rights: &'a [u16; 510],
@@ -64,14 +64,14 @@ fn side_class<'a>(sides: &'a [u16; 510], table: &'a [u16; 255], k: usize) -> u16
 }
 
 // 1 where statement k is a difference, and 0 where it is an equation.
-pub fn difference_at(kinds: &[u8; 510], k: usize) -> u16
+pub(crate) fn difference_at(kinds: &[u8; 510], k: usize) -> u16
     ensures { λ r. ⌜ (r ≡ differenceAt (now (kinds .entry)) k) × (r ≤ 1) ⌝ }
 {
     if kind_at(kinds, k) == 2 { 0 } else { 1 }
 }
 
 // Whether statement k is a difference whose sides have one representative.
-pub fn clash_at<'a>(
+pub(crate) fn clash_at<'a>(
     kinds: &'a [u8; 510],
     lefts: &'a [u16; 510],
     rights: &'a [u16; 510],
@@ -105,7 +105,7 @@ fn either(a: u16, b: u16, p: u16, q: u16) -> bool
 }
 
 // Whether statement k is a difference whose sides have the representatives a and b, in either orientation.
-pub fn apart_at<'a>(
+pub(crate) fn apart_at<'a>(
     kinds: &'a [u8; 510],
     lefts: &'a [u16; 510],
     rights: &'a [u16; 510],

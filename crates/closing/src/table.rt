@@ -35,7 +35,7 @@ pub fn places(table: &[u16; 255]) -> usize
 }
 
 // Each row represents itself.
-pub fn own() -> [u16; 255]
+pub(crate) fn own() -> [u16; 255]
     ensures { λ r. ⌜ r ≡ numbers 255 0 ⌝ }
 {
     let mut t = [0; 255];

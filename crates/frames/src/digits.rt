@@ -27,7 +27,7 @@ pub fn value(b: u8) -> u8
     255
 }
 
-pub fn digit_of(b: u8) -> Digit
+pub(crate) fn digit_of(b: u8) -> Digit
     ensures { λ r. ⌜ r ≡ digitOf b ⌝ }
 {
     let v = value(b);

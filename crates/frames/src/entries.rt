@@ -36,7 +36,7 @@ pub enum Termed {
 }
 
 // The row that a field names, of the first n.
-pub fn row_at(text: &[u8], at: usize, n: usize) -> Found
+pub(crate) fn row_at(text: &[u8], at: usize, n: usize) -> Found
     requires { ⌜ at + 1 < length (now text) ⌝ }
     ensures { λ r. ⌜ r ≡ foundIn n (valueAt (now (text .entry)) at) ⌝ }
 {
@@ -50,7 +50,7 @@ pub fn row_at(text: &[u8], at: usize, n: usize) -> Found
 }
 
 // Argument k of those that begin at a place, or 0 past the last.
-pub fn argument(text: &[u8], at: usize, k: u8, count: u8, n: usize) -> Found
+pub(crate) fn argument(text: &[u8], at: usize, k: u8, count: u8, n: usize) -> Found
     requires { ⌜ at + count * 2 ≤ length (now text) ⌝ }
     ensures { λ r. ⌜ r ≡ argumentOf (now (text .entry)) at k count n ⌝ }
 {

@@ -20,7 +20,7 @@ pub enum Kind {
 }
 
 // The first place from at on that holds no digit, or the length.
-pub fn digits_end(text: &[u8], at: usize) -> usize
+pub(crate) fn digits_end(text: &[u8], at: usize) -> usize
     requires { ⌜ at ≤ length (now text) ⌝ }
     ensures run { λ r. ⌜ Run (now (text .entry)) at r ⌝ }
 {

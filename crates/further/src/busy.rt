@@ -16,7 +16,7 @@ ghost use Rattle.closing.specs.Steps.{Laid, Seated};
 ghost use Rattle.further.specs.Marks.{Raised, Argued, sidesAt};
 
 // Whether class a is marked; past the last place none is.
-pub fn marked(marks: &[u8; 255], a: usize) -> bool
+pub(crate) fn marked(marks: &[u8; 255], a: usize) -> bool
     ensures { λ r. ⌜ r ≡ not (eqb (getD (now (marks .entry)) a 0) 0) ⌝ }
 {
     let all: &[u8] = marks;
@@ -26,13 +26,13 @@ pub fn marked(marks: &[u8; 255], a: usize) -> bool
     false
 }
 
-pub fn none() -> [u8; 255]
+pub(crate) fn none() -> [u8; 255]
     ensures { λ r. ⌜ r ≡ replicate 255 0 ⌝ }
 {
     [0; 255]
 }
 
-pub fn all() -> [u8; 255]
+pub(crate) fn all() -> [u8; 255]
     ensures { λ r. ⌜ r ≡ replicate 255 1 ⌝ }
 {
     [1; 255]
@@ -74,7 +74,7 @@ fn mark_args<'a>(
     }
 }
 
-pub fn mark_rows<'a>(
+pub(crate) fn mark_rows<'a>(
     counts: &'a [u8; 255],
     args: &'a [u16; 1020],
     rows: usize,
@@ -110,7 +110,7 @@ fn mark_statement<'a>(
     mark(marks, wide(at_row(table, wide(rights[k]))));
 }
 
-pub fn mark_sides<'a>(
+pub(crate) fn mark_sides<'a>(
     kinds: &'a [u8; 510],
     lefts: &'a [u16; 510],
     rights: &'a [u16; 510],

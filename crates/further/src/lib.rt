@@ -2,7 +2,7 @@
 // The equation is two rows that are handed over, and no entry of the columns.
 
 mod busy;
-pub mod orderly;
+mod orderly;
 mod passes;
 
 use busy::all;

@@ -25,7 +25,7 @@ fn orderly_at(table: &[u16; 255], rows: usize, i: usize) -> bool
 }
 
 // Whether each place is so.
-pub fn orderly(table: &[u16; 255], rows: usize) -> bool
+pub(crate) fn orderly(table: &[u16; 255], rows: usize) -> bool
     ensures { λ r. ⌜ Decides r (Orderly rows (now (table .entry))) ⌝ }
 {
     let n = places(table);
@@ -40,7 +40,7 @@ pub fn orderly(table: &[u16; 255], rows: usize) -> bool
 }
 
 // Whether the table is orderly, and x and y are rows.
-pub fn startable(table: &[u16; 255], rows: usize, x: usize, y: usize) -> bool
+pub(crate) fn startable(table: &[u16; 255], rows: usize, x: usize, y: usize) -> bool
     ensures { λ r. ⌜ Decides r (Startable rows (now (table .entry)) x y) ⌝ }
 {
     if rows <= x {

@@ -34,7 +34,7 @@ fn turns<'a>(
 }
 
 // The rows x and y get one representative, and passes follow.
-pub fn settle_with<'a>(
+pub(crate) fn settle_with<'a>(
     symbols: &'a [u16; 255],
     counts: &'a [u8; 255],
     args: &'a [u16; 1020],

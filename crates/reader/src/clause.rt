@@ -31,7 +31,7 @@ pub struct ClauseRead {
     pub columns: ClauseColumns,
 }
 
-pub fn no_clause() -> ClauseColumns
+pub(crate) fn no_clause() -> ClauseColumns
     ensures { λ r. ⌜ r ≡ noClause ⌝ }
 {
     ClauseColumns {
@@ -176,7 +176,7 @@ fn read_literals(text: &[u8], from: Place, columns: ClauseColumns) -> ClauseRead
 }
 
 // Both phases, from a place on.
-pub fn read_clause(text: &[u8], from: Place, c: ContextColumns) -> ClauseRead
+pub(crate) fn read_clause(text: &[u8], from: Place, c: ContextColumns) -> ClauseRead
     requires { ⌜ Stands (now text) (from .at) (from .line) 3 c noClause ⌝ }
     ensures clause { λ r. ⌜ ClausePhase (now (text .entry)) 5 c (r .next) (r .columns) ⌝ }
 {

@@ -52,7 +52,7 @@ fn first(number: u8, line: u16) -> Refusal
     }
 }
 
-pub fn last_fault(text: &[u8], at: usize, line: u16) -> Refusal
+pub(crate) fn last_fault(text: &[u8], at: usize, line: u16) -> Refusal
     requires { ⌜ at < length (now text) ⌝ }
     ensures last { λ r. ⌜ LastFault (now (text .entry)) at line r ⌝ }
 {
