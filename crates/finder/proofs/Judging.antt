@@ -1,19 +1,25 @@
 -- The ways out of the finder: what is answered to well-formed columns, and to a text.
 --     lent, hunt-answers          what is lent to the search, and what it answers to well-formed columns
+--     unfit-not-none, no-unfit    a search's failure is not told as none, and no text is told it
 --     ready-closed                where a rule is ready, the table is the closing
 --     find-refused, find-found    the refusal, and the first breach or none
 --     finds-one                   two replies to one text are equal
 -- Assumes nothing.
-use mathlib.Core.List.{List}
+use mathlib.Core.List.{List, [], _∷_}
 use mathlib.Core.Path.{_≡_, refl, sym, ap, ap₂, _∙_}
-use Prim.Native.Nat.{ℕ}
+use Prim.Native.Nat.{ℕ, _≤_}
 use native.Mathlib.Omega.{arith}
 use borrow.Author.Needs.{needs}
 use Rattle.meaning.specs.Equality.{Promise}
 use Rattle.meaning.specs.Rules.{Found, found, nothing}
-use Rattle.meaning.specs.Text.{narrow}
-use Rattle.meaning.specs.Replies.{breach, none, refused, replyOf, placesOf, Replies}
+use Rattle.meaning.specs.Context.{Context}
+use Rattle.meaning.specs.Rules.{Clause}
+use Rattle.meaning.specs.Text as T
+use Rattle.meaning.specs.Text.{narrow, read, faulty, taken}
+use Rattle.meaning.specs.Replies as M
+use Rattle.meaning.specs.Replies.{breach, none, refused, replyOf, placesOf, Judged, empty, clashes, answers, RepliesTo, Replies}
 use Rattle.meaning.proofs.Answered.{replies-one}
+use Rattle.meaning.proofs.Bounds.{read-bounded}
 use Rattle.ledger.specs.declared.ContextColumns.{ContextColumns}
 use Rattle.ledger.specs.declared.ClauseColumns.{ClauseColumns}
 use Rattle.ledger.specs.declared.Refusal.{Refusal}
@@ -53,8 +59,32 @@ answered-breach kind n places e = rw e
 pub answered-clear : (kind : Kind) (places : List ℕ) → kind ≡ S.Clear → record { outcome = O.Clear; places = places } ≡ answeredWith kind places
 answered-clear kind places e = rw e
 
-pub answered-unfit : (kind : Kind) (places : List ℕ) → kind ≡ S.Unfit → record { outcome = O.Clear; places = places } ≡ answeredWith kind places
+pub answered-unfit : (kind : Kind) (places : List ℕ) → kind ≡ S.Unfit → record { outcome = O.Refused (record { number = 0; line = 0; offset = 0 }); places = places } ≡ answeredWith kind places
 answered-unfit kind places e = rw e
+
+pub unfit-not-none : (places : List ℕ) → toldBy (answeredWith S.Unfit places .outcome) ≡ 9 ∷ [] → ⊥
+unfit-not-none places e = let z : _≡_ {A = ℕ} 10 9 = cc in omega arith
+
+judged-number : (c : Context) (k : Clause) (r : M.Reply) (f : T.Refusal) → Judged c k r → r ≡ refused f → 1 ≤ f .number
+judged-number c k r f (empty x) e = let n : 8 ≡ f .number = cc in omega arith
+judged-number c k r f (clashes x n y) e = let n : 9 ≡ f .number = cc in omega arith
+judged-number c k r f (answers x y (found a) w) e = absurd (let z : _≡_ {A = ℕ} 0 1 = cc in omega arith)
+judged-number c k r f (answers x y nothing w) e = absurd (let z : _≡_ {A = ℕ} 0 1 = cc in omega arith)
+
+refused-number : (text : List ℕ) (f : T.Refusal) → Replies narrow text (refused f) → 1 ≤ f .number
+refused-number text f w = go (read narrow text) refl w
+  where
+    go : (y : T.Reading) → read narrow text ≡ y → RepliesTo y (refused f) → 1 ≤ f .number
+    go (faulty g) e q = let v : g ≡ f = cc in omega (arith, read-bounded narrow text f (e ∙ ap faulty v) .numberLow)
+    go (taken s) e q = judged-number (s .ledger .context) (s .clause) (refused f) f q refl
+
+pub no-unfit : (text places : List ℕ) → Finds text (answeredWith S.Unfit places) → ⊥
+no-unfit text places p = go (p .reply) (p .replies) (p .told)
+  where
+    go : (y : M.Reply) → Replies narrow text y → toldBy (answeredWith S.Unfit places .outcome) ≡ toldOf y → ⊥
+    go (breach a) w e = let z : _≡_ {A = ℕ} 10 8 = cc in omega arith
+    go none w e = let z : _≡_ {A = ℕ} 10 9 = cc in omega arith
+    go (refused f) w e = let z : 0 ≡ f .number = cc in omega (arith, refused-number text f w)
 
 -- ---- the reply to a text
 

@@ -69,7 +69,7 @@ refusedWith x = record { outcome = Refused x; places = replicate 4 255 }
 abbrev pub answeredWith : Kind → List ℕ → Reply
 answeredWith (S.Breach n) places = record { outcome = Breach n; places = places }
 answeredWith S.Clear places = record { outcome = Clear; places = places }
-answeredWith S.Unfit places = record { outcome = Clear; places = places }
+answeredWith S.Unfit places = record { outcome = Refused (record { number = 0; line = 0; offset = 0 }); places = places }
 
 abbrev pub toldBy : Outcome → List ℕ
 toldBy (Breach n) = 8 ∷ n ∷ []

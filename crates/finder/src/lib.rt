@@ -178,14 +178,21 @@ fn hunt_after(
     )
 }
 
-// Well-formed columns are never told unfit.
+// Well-formed columns are never told unfit; if they were, a refusal of a number that no text gets would say so.
 fn answered(kind: Kind, places: [u16; 4]) -> Reply
     ensures { λ r. ⌜ r ≡ answeredWith kind places ⌝ }
 {
     let outcome = match kind {
         Kind::Breach(n) => Outcome::Breach(n),
         Kind::Clear => Outcome::Clear,
-        Kind::Unfit => Outcome::Clear,
+        Kind::Unfit => {
+            let x = Refusal {
+                number: 0,
+                line: 0,
+                offset: 0,
+            };
+            Outcome::Refused(x)
+        }
     };
     Reply { outcome, places }
 }
