@@ -1,8 +1,8 @@
 -- Lines at the front of 32 bytes.
---     prints-one    a line is printed in one way
+--     prints-one, line-one    a line is printed in one way
 -- Assumes nothing.
 use mathlib.Core.List.{List, [], _∷_, _++_, map}
-use mathlib.Core.Path.{_≡_, refl, sym, ap, _∙_}
+use mathlib.Core.Path.{_≡_, refl, sym, ap, ap₂, _∙_}
 use Prim.Native.Nat.{ℕ, zero, suc, _+_, _-_, _/_, _≤_, min}
 use native.Mathlib.Nat.{zero-add}
 use native.Mathlib.Omega.{arith}
@@ -15,11 +15,16 @@ use Rattle.ledger.specs.Phases.{meant}
 use Rattle.ledger.specs.declared.Refusal.{Refusal}
 use Rattle.normaliser.specs.Pieces.{low8, Put, LineRoom}
 use Rattle.normaliser.specs.Prints.{Prints}
+use Rattle.normaliser.specs.declared.printed.Line.{Line}
 use Rattle.normaliser.proofs.Stores.{put-whole}
 use Rattle.normaliser.proofs.Lines.{length-frame}
 
 pub prints-one : {line a b : List ℕ} {m n : ℕ} → Prints line a m → Prints line b n → (a ≡ b) × (m ≡ n)
 prints-one p q = (p .front ∙ sym (q .front), p .size ∙ sym (q .size))
+
+pub line-one : {line : List ℕ} (r s : Line) → Prints line (r .bytes) (r .len) → Prints line (s .bytes) (s .len) → r ≡ s
+line-one r s p q =
+    let w : (r .bytes ≡ s .bytes) × (r .len ≡ s .len) = prints-one p q in ap₂ (λ (b : List ℕ) (n : ℕ). record { bytes = b; len = n }) (w .0) (w .1)
 
 pub line-room : (n : ℕ) → n ≤ 8 → LineRoom n 0 (replicate 32 0)
 line-room n h = record { few = h; room = omega arith }

@@ -1,5 +1,6 @@
 -- The ways out of the function that gives the normaliser program's output; and that what it gives is what the program has to print.
 --     output-over, output-wrote, output-refused   input that is too long; a normal text; a refusal
+--     prints-normal-one                           two answers to one input and one lent space are equal, the space afterwards included
 --     output-prints                               with space for any normal text, the parts joined are the program's output
 -- Assumes nothing.
 use mathlib.Core.List.{List, [], _++_, append-nil}
@@ -21,6 +22,7 @@ use Rattle.meaning.specs.Closing.{close}
 use Rattle.meaning.proofs.Promised.{closing-represents, closing-promise}
 use Rattle.meaning.proofs.Taken.{read-formed}
 use Rattle.meaning.proofs.Agreement.{normal-one}
+use Rattle.meaning.proofs.Answered.{writes-one}
 use Rattle.meaning.proofs.Computed.{repOf}
 use Rattle.meaning.proofs.Kept.{read-kept}
 use Rattle.meaning.proofs.Bounds.{normal-bytes}
@@ -31,6 +33,7 @@ use Rattle.normaliser.specs.Prints.{Prints}
 use Rattle.normaliser.specs.declared.Written.{Written}
 use Rattle.normaliser.specs.declared.Written.the-variants.{Wrote, Refused}
 use Rattle.normaliser.specs.declared.printed.Line.{Line}
+use Rattle.normaliser.proofs.Printing.{line-one}
 use Rattle.printing.specs.Claims.{PartsOf, Answers, over, within, PrintsNormal}
 use Rattle.printing.specs.declared.Parts.{Parts}
 
@@ -51,6 +54,29 @@ module _ (input space after : List ℕ) (line : Line) (few : length input ≤ 16
         answers = within few (unwritten (meant x)) after (subst (λ (z : Written). Writes narrow input space (writtenBy z) after) e writes);
         parts = (refl, p);
       }
+
+-- ---- one answer
+
+answers-one : (input space : List ℕ) (a b : MW) (u v : List ℕ) → Answers input space a u → Answers input space b v → (a ≡ b) × (u ≡ v)
+answers-one input space a b u v (over h) (over k) = (refl, refl)
+answers-one input space a b u v (over h) (within k c w q) = absurd (omega arith)
+answers-one input space a b u v (within h c w p) (over k) = absurd (omega arith)
+answers-one input space a b u v (within h c w p) (within k d x q) = writes-one narrow input space a b u v p q
+
+parts-one : (a : MW) (r s : Parts) → PartsOf a r → PartsOf a s → r ≡ s
+parts-one a r s = go a
+  where
+    same : {n : ℕ} {l : List ℕ} → (r .text ≡ n) × Prints l (r .line .bytes) (r .line .len) → (s .text ≡ n) × Prints l (s .line .bytes) (s .line .len) → r ≡ s
+    same p q = ap₂ (λ (m : ℕ) (l : Line). record { text = m; line = l }) (p .0 ∙ sym (q .0)) (line-one (r .line) (s .line) (p .1) (q .1))
+
+    go : (a : MW) → PartsOf a r → PartsOf a s → r ≡ s
+    go (wrote n) p q = same p q
+    go (unwritten x) p q = same p q
+
+pub prints-normal-one : (input space u v : List ℕ) (r s : Parts) → PrintsNormal input space r u → PrintsNormal input space s v → (r ≡ s) × (u ≡ v)
+prints-normal-one input space u v r s p q =
+    let w : (p .answer ≡ q .answer) × (u ≡ v) = answers-one input space (p .answer) (q .answer) u v (p .answers) (q .answers) in
+    (parts-one (q .answer) r s (subst (λ (a : MW). PartsOf a r) (w .0) (p .parts)) (q .parts), w .1)
 
 -- ---- what is given is what has to be printed
 

@@ -25,7 +25,7 @@ use Rattle.finder.specs.declared.Reply.{Reply as Answer}
 use Rattle.normaliser.specs.Pieces.{low8}
 use Rattle.normaliser.specs.Prints.{Prints}
 use Rattle.normaliser.specs.declared.printed.Line.{Line}
-use Rattle.normaliser.proofs.Printing.{prints-one}
+use Rattle.normaliser.proofs.Printing.{line-one}
 use Rattle.printing.specs.Claims.{PrintsFound}
 
 -- ---- a breach's rows are bytes
@@ -115,7 +115,6 @@ find-prints-one input l m (replies h r w) (replies k s v) = ap printed (replies-
 pub prints-found-one : (input : List ℕ) (r s : Line) → PrintsFound input r → PrintsFound input s → r ≡ s
 prints-found-one input r s p q =
     let e : q .line ≡ p .line = find-prints-one input (q .line) (p .line) (q .prints) (p .prints) in
-    let w : (r .bytes ≡ s .bytes) × (r .len ≡ s .len) = prints-one (p .front) (subst (λ (l : List ℕ). Prints l (s .bytes) (s .len)) e (q .front)) in
-    ap₂ (λ (b : List ℕ) (n : ℕ). record { bytes = b; len = n }) (w .0) (w .1)
+    line-one r s (p .front) (subst (λ (l : List ℕ). Prints l (s .bytes) (s .len)) e (q .front))
 
 pub ruleset mine = (needs, prints-long, prints-breach, prints-clear, prints-refused)
