@@ -8,8 +8,6 @@ use records::Statements;
 use records::Table;
 use search::Kind;
 ghost use mathlib.Core.Path.{_≡_};
-ghost use Prim.Native.Nat.{_≤_};
-ghost use lib.ListN.{take};
 ghost use Rattle.columns.specs.Fit.{Decides};
 ghost use Rattle.finder.specs.Claims.{ClosedIn};
 ghost use Rattle.records.specs.Layouts.{spreadOf};
@@ -105,7 +103,7 @@ pub fn find_over(c: ContextColumns, k: ClauseColumns) -> Reply
 }
 
 // The representatives of the rows of a table.
-pub fn close_table(t: Table, s: Statements) -> Classes
+pub(crate) fn close_table(t: Table, s: Statements) -> Classes
     ensures closes { λ r. ⌜ ClosedIn (spreadOf t s) r ⌝ }
 {
     let c = records::spread(t, s);
@@ -113,7 +111,7 @@ pub fn close_table(t: Table, s: Statements) -> Classes
 }
 
 // The first breach of a rule in a table.
-pub fn find_table(t: Table, s: Statements, k: ClauseColumns) -> Reply
+pub(crate) fn find_table(t: Table, s: Statements, k: ClauseColumns) -> Reply
     ensures finds { λ r. ⌜ FindsOver (spreadOf t s) k r ⌝ }
 {
     let c = records::spread(t, s);
@@ -134,26 +132,4 @@ pub fn find(rows: &[Row], s: Statements, k: ClauseColumns) -> Reply
 {
     let t = records::listed(rows);
     find_table(t, s, k)
-}
-
-// The first records of a table are lent to the finder.
-fn lend(t: Table, s: Statements, k: ClauseColumns) -> Reply
-    requires { ⌜ t .count ≤ 255 ⌝ }
-    ensures finds { λ r. ⌜ FindsRows (take (t .count) (t .rows)) s k r ⌝ }
-{
-    let rows = t.rows;
-    let n = t.count;
-    find(&rows[..n], s, k)
-}
-
-// The first breach of a rule in a context in columns, found over its records.
-pub fn find_by_records(c: ContextColumns, k: ClauseColumns) -> Reply
-    ensures finds { λ r. ⌜ FindsOver c k r ⌝ }
-{
-    if 255 < c.rows {
-        return unfit();
-    }
-    let t = records::gathered(c);
-    let s = records::stated(c);
-    lend(t, s, k)
 }
