@@ -3,7 +3,6 @@
 --     no-..      a wrong version does not give what the definitions ask
 -- Assumes nothing.
 use mathlib.Core.List.{List, [], _∷_, _++_}
-use mathlib.Core.Logic.{⊎-elim}
 use mathlib.Core.Path.{_≡_, refl, ap}
 use Prim.Native.Nat.{ℕ, _%_}
 use native.Mathlib.Omega.{arith}
@@ -12,9 +11,9 @@ use Rattle.meaning.specs.Context.{Row, Context, same, differ, differencesOf, eq
 use Rattle.meaning.specs.Equality.{Representatives, given, reflexive, symmetric}
 use Rattle.meaning.specs.Columns.{statementOf, statementsFrom, rowsFrom, contextFrom}
 use Rattle.meaning.specs.Writing.{digitOf, hex, frame, rowsText, statementsText, contextText, joins, sooner, insert, sorted, normalOf}
-use Rattle.meaning.specs.Replies.{breach, none, refused, refusal, printed, codeOf, valuesOf, Normal, Leaves, fits, normal, wrote, unwritten}
+use Rattle.meaning.specs.Text.{Refusal}
+use Rattle.meaning.specs.Replies.{breach, none, refused, refusal, printed, codeOf, valuesOf, Normal, Normalised, Leaves, fits, short, stays, normal, Written, wrote, unwritten}
 use Rattle.normaliser.specs.Normals.{normalText}
-use Rattle.normaliser.proofs.Determined.{leaves-cases}
 
 -- ---- printed lines
 
@@ -36,19 +35,26 @@ no-count-left-out e = let z : _≡_ {A = ℕ} 50 48 = ap (λ (l : List ℕ). get
 
 -- ---- the lent space
 
+-- a refusal leaves every byte, and so does an empty text
+refused-stays : (lent after : List ℕ) (n : Normalised) (a : Written) (x : Refusal) → a ≡ unwritten x → Leaves lent n a after → after ≡ lent
+refused-stays lent after n a x e (fits t h) = absurd (let z : _≡_ {A = ℕ} 0 1 = cc in omega arith)
+refused-stays lent after n a x e (short t h) = refl
+refused-stays lent after n a x e (stays r) = refl
+
+empty-stays : (lent after : List ℕ) (n : Normalised) (a : Written) → n ≡ normal [] → Leaves lent n a after → after ≡ lent
+empty-stays lent after n a e (fits t h) = let f : t ≡ [] = cc in rw f
+empty-stays lent after n a e (short t h) = refl
+empty-stays lent after n a e (stays r) = refl
+
 -- a refusal 10 after a byte was written
 pub no-early-byte : (text : List ℕ) → Leaves (1 ∷ []) (normal text) (unwritten (refusal 10 0)) (0 ∷ []) → ⊥
 no-early-byte text l =
-    ⊎-elim (λ f. let e = f .count in let z : _≡_ {A = ℕ} 0 1 = cc in omega arith)
-    (λ f. let z : _≡_ {A = ℕ} 0 1 = ap (λ (m : List ℕ). getD m 0 0) (f .kept) in omega arith)
-    (leaves-cases (1 ∷ []) text (0 ∷ []) (normal text) (unwritten (refusal 10 0)) refl l)
+    let z : _≡_ {A = ℕ} 0 1 = ap (λ (m : List ℕ). getD m 0 0) (refused-stays (1 ∷ []) (0 ∷ []) (normal text) (unwritten (refusal 10 0)) (refusal 10 0) refl l) in omega arith
 
 -- a byte behind an empty text is changed
 pub no-later-byte : Leaves (1 ∷ []) (normal []) (wrote 0) (0 ∷ []) → ⊥
 no-later-byte l =
-    ⊎-elim (λ f. let z : _≡_ {A = ℕ} 0 1 = ap (λ (m : List ℕ). getD m 0 0) (f .front) in omega arith)
-    (λ f. omega (arith, f .less))
-    (leaves-cases (1 ∷ []) [] (0 ∷ []) (normal []) (wrote 0) refl l)
+    let z : _≡_ {A = ℕ} 0 1 = ap (λ (m : List ℕ). getD m 0 0) (empty-stays (1 ∷ []) (0 ∷ []) (normal []) (wrote 0) refl l) in omega arith
 
 -- an empty text needs no space
 pub some-empty : Leaves [] (normal []) (wrote 0) []

@@ -1,6 +1,5 @@
 -- Columns that say a well-formed context, with the representatives that a closing promises, can be written.
 --     fit-writable    they are few and small enough
---     normal-text     and what is written is the context's normal text
 -- Assumes nothing.
 use mathlib.Core.Bool.{Bool, true, false}
 use mathlib.Core.List.{List, [], _∷_}
@@ -15,9 +14,8 @@ use Rattle.meaning.specs.Equality.{repAt, Promise}
 use Rattle.meaning.specs.Formed.{Within, Fit}
 use Rattle.meaning.specs.Rules.{Below}
 use Rattle.meaning.specs.Columns.{argsAt, rowsFrom, statementOf, statementsFrom, contextFrom, firstOf, secondOf}
-use Rattle.meaning.specs.Replies.{Normal}
 use Rattle.meaning.proofs.Built.{length-rows, rows-at, length-statements, statements-at}
-use Rattle.normaliser.specs.Normals.{Writable, normalText}
+use Rattle.normaliser.specs.Normals.{Writable}
 
 -- ---- the rows
 
@@ -80,7 +78,3 @@ module _ (symbols counts args : List ℕ) (n : ℕ) (kinds lefts rights : List �
 
       rep : (i : ℕ) → i < n → repAt table i < 255
       rep i h = omega (arith, p .rows i (omega (arith, as-many)) .row, as-many)
-
-  pub normal-text : Normal (contextFrom symbols counts args n kinds lefts rights m) (normalText symbols counts args n kinds lefts rights m table)
-  unfolding normalText
-  normal-text = (repAt table, p .rows, refl)

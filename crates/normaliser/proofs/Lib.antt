@@ -11,7 +11,6 @@ pub mod Rows
 pub mod Pairs
 pub mod Texts
 pub mod Whole
-pub mod Determined
 pub mod Composed
 pub mod Controls
 pub mod Fitting
