@@ -6,6 +6,8 @@
 use mathlib.Core.List.{List}
 use mathlib.Core.Path.{_≡_}
 use Prim.Native.Nat.{ℕ, _+_, _*_, _≤_}
+use Rattle.meaning.specs.Packing.{packedRefusal}
+use Rattle.ledger.specs.Phases.{meant}
 use Rattle.ledger.specs.declared.Refusal.{Refusal}
 use Rattle.finder.specs.declared.Outcome.{Outcome}
 use Rattle.finder.specs.declared.Outcome.the-variants as O
@@ -13,7 +15,7 @@ use Rattle.normaliser.specs.declared.Written.{Written}
 use Rattle.normaliser.specs.declared.Written.the-variants as W
 
 abbrev pub packedBy : Refusal → ℕ
-packedBy x = 10 + 256 * x .number + 65536 * x .line + 4294967296 * x .offset
+packedBy x = packedRefusal (meant x)
 
 abbrev pub packedOutcome : Outcome → ℕ
 packedOutcome (O.Breach n) = 8 + 256 * n
