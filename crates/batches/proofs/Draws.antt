@@ -3,7 +3,6 @@
 --     drawing-start           before the first
 --     drawing-next            after one literal more, where its column holds numbers of 16 bits
 --     drawing-accepted        the verdict on all of them
---     end-columns             the conclusions in columns
 --     owner-most              an owner is at most the literal's number
 -- Assumes nothing.
 use mathlib.Core.Bool.{Bool, true, false}
@@ -14,7 +13,7 @@ use Prim.Native.Nat.{ℕ, suc, _+_, _-_, _*_, _≤_, _<_}
 use native.Mathlib.Omega.{arith}
 use lib.Dec.{eqb, ltb}
 use borrow.Author.Tests.{eqb-true, eqb-false, ltb-true, ltb-false}
-use lib.ListN.{length, getD, set, take, drop, replicate, length-set, length-take, length-replicate}
+use lib.ListN.{length, getD, set, take, drop, length-set, length-take, length-replicate}
 use lib.Seq.{getD-take, getD-set-same, getD-set-other, drop-drop}
 use Rattle.meaning.specs.Context.{Term, Row, Context, differences}
 use Rattle.meaning.specs.Rules.{Literal, equal, unequal, Clause, AllHold}
@@ -32,19 +31,12 @@ use Rattle.grounding.proofs.Concludes.{conclusion}
 use Rattle.grounding.proofs.Literal.{Closed, SaidFor, said-literal, said-shared, hold-at}
 use Rattle.batches.specs.Sending.{newOf, Out, stepsIn, batch, Small}
 use Rattle.batches.specs.Drawing.{Drawn, drawSaid, drawOne, blankDrawn, endWritten, CitedLater, Used, by-step, by-end}
-use Rattle.batches.proofs.Marks.{zeros-at}
 use Rattle.batches.proofs.Batching.{Knows, knows-start, Sent, batch-sent}
 
 pub owner-most : (j : ℕ) (l : Literal) → ownerOf j l ≤ suc j
 unfolding ownerOf
 owner-most j (equal p q) = omega arith
 owner-most j (unequal p q) = omega arith
-
--- ---- conclusions in columns
-
-pub end-columns : (d : Drawn) (j : ℕ) → conclusionFrom (d .ends) (replicate 16 0) (d .differences) (replicate 16 0) j ≡ endWritten d j
-unfolding conclusionFrom endWritten
-end-columns d j = rw (zeros-at 16 j)
 
 -- ---- more steps
 
@@ -203,7 +195,7 @@ module _ (c : Context) (k : Clause) (a : List ℕ) where
 
         -- the conclusions of earlier literals stay, and this one's is new
         end-before : (i : ℕ) → i < j → endWritten after i ≡ endWritten d i
-        unfolding drawSaid endWritten
+        unfolding drawSaid conclusionFrom
         end-before i b =
             let x : getD (set (d .ends) j (newOf (out .news) (s .first))) i 0 ≡ getD (d .ends) i 0 =
             getD-set-other (d .ends) j i (newOf (out .news) (s .first)) 0 (λ e. omega arith) in
@@ -212,11 +204,11 @@ module _ (c : Context) (k : Clause) (a : List ℕ) where
             rw (x, y)
 
         end-first : endWritten after j .first ≡ newOf (out .news) (s .first)
-        unfolding drawSaid endWritten
+        unfolding drawSaid conclusionFrom
         end-first = getD-set-same (d .ends) j (newOf (out .news) (s .first)) 0 (omega (arith, w .ends))
 
         end-difference : endWritten after j .difference ≡ s .difference
-        unfolding drawSaid endWritten
+        unfolding drawSaid conclusionFrom
         end-difference = getD-set-same (d .differences) j (s .difference) 0 (omega (arith, w .differences))
 
         earlier : {o x : ℕ} {t u : Term} → Cites c k a (stepsIn (d .out)) o x t u → Cites c k a (stepsIn out) o x t u

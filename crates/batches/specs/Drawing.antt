@@ -11,10 +11,11 @@
 use mathlib.Core.List.{List}
 use mathlib.Core.Path.{_≡_}
 use Prim.Native.Nat.{ℕ, suc, _<_}
-use lib.ListN.{length, getD, set, replicate}
+use lib.ListN.{length, set, replicate}
 use Rattle.meaning.specs.Context.{Row}
 use Rattle.meaning.specs.Rules.{Literal}
 use Rattle.meaning.specs.Grounds.{Step, Conclusion, stepAt, numberIn, literalAt}
+use Rattle.meaning.specs.GroundColumns.{conclusionFrom}
 use Rattle.grounding.specs.Draft.{countIn}
 use Rattle.grounding.specs.Classes.{State, upto}
 use Rattle.grounding.specs.Concluding.{Said, said, resumed, ownerOf}
@@ -60,9 +61,8 @@ module _ (n : ℕ) (ks : List Row) (ns : List ℕ) (rows : ℕ) (diffs : List (�
   unfoldable pub drawn : List ℕ → List ℕ → List ℕ → Drawn
   drawn firsts seconds thirds = drawnTo (length ls) (blankDrawn (closed .cells) firsts seconds thirds)
 
-unfoldable pub endWritten : Drawn → ℕ → Conclusion
-endWritten d j =
-    record { literal = suc j; first = getD (d .ends) j 0; second = 0; difference = getD (d .differences) j 0; orientation = 0 }
+abbrev pub endWritten : Drawn → ℕ → Conclusion
+endWritten d j = conclusionFrom (d .ends) (d .differences) j
 
 -- place p is step p + 1
 pub record CitedLater (steps : List Step) (p : ℕ) : Type 0 where

@@ -32,18 +32,18 @@ length-step x y z =
     length-frame (176 ∷ (octets 8 x ++ (octets 8 y ++ octets 8 z)))
     ∙ omega (arith, length-append (octets 8 x) (octets 8 y ++ octets 8 z), length-append (octets 8 y) (octets 8 z), length-octets 8 x, length-octets 8 y, length-octets 8 z)
 
-length-cited : (first second difference orientation : ℕ) → length (citedBytes first second difference orientation) ≡ 11
+length-cited : (first difference : ℕ) → length (citedBytes first difference) ≡ 11
 unfolding citedBytes
-length-cited f s d o =
-    length-append (octets 4 f) (octets 4 s ++ (octets 2 d ++ octets 1 o))
-    ∙ omega (arith, length-append (octets 4 s) (octets 2 d ++ octets 1 o), length-append (octets 2 d) (octets 1 o), length-octets 4 f, length-octets 4 s, length-octets 2 d, length-octets 1 o)
+length-cited f d =
+    length-append (octets 4 f) (octets 4 0 ++ (octets 2 d ++ octets 1 0))
+    ∙ omega (arith, length-append (octets 4 0) (octets 2 d ++ octets 1 0), length-append (octets 2 d) (octets 1 0), length-octets 4 f, length-octets 4 0, length-octets 2 d, length-octets 1 0)
 
 pub length-end : (c : Conclusion) → length (endFrame c) ≡ 27
 unfolding endFrame endBytes
 length-end c =
-    let r : List ℕ = citedBytes (c .first) (c .second) (c .difference) (c .orientation) in
+    let r : List ℕ = citedBytes (c .first) (c .difference) in
     length-frame (177 ∷ (octets 1 (c .literal) ++ r))
-    ∙ omega (arith, length-append (octets 1 (c .literal)) r, length-octets 1 (c .literal), length-cited (c .first) (c .second) (c .difference) (c .orientation))
+    ∙ omega (arith, length-append (octets 1 (c .literal)) r, length-octets 1 (c .literal), length-cited (c .first) (c .difference))
 
 -- ---- stored one behind the other
 
@@ -93,27 +93,27 @@ step-stored l a b at x y z eb ea =
     behind l a b (octets 1 176 ++ octets 8 x) (octets 8 y ++ octets 8 z) at (at + 18) 9 ea (length-two 176 1 x 8) (omega arith) eb
     ∙ ap (λ (r : List ℕ). sets l at (frame r)) (append-assoc (octets 1 176) (octets 8 x) (octets 8 y ++ octets 8 z))
 
-pub cited-stored : (l a b : List ℕ) (at first second difference orientation : ℕ) → b ≡ sets a (at + 16) (frame (octets 2 difference ++ octets 1 orientation))
-    → a ≡ sets l at (hex (octets 4 first ++ octets 4 second)) → b ≡ sets l at (frame (citedBytes first second difference orientation))
+pub cited-stored : (l a b : List ℕ) (at first difference : ℕ) → b ≡ sets a (at + 16) (frame (octets 2 difference ++ octets 1 0))
+    → a ≡ sets l at (hex (octets 4 first ++ octets 4 0)) → b ≡ sets l at (frame (citedBytes first difference))
 unfolding citedBytes
-cited-stored l a b at first second difference orientation eb ea =
-    behind l a b (octets 4 first ++ octets 4 second) (octets 2 difference ++ octets 1 orientation) at (at + 16) 8 ea (length-two first 4 second 4) (omega arith) eb
-    ∙ ap (λ (r : List ℕ). sets l at (frame r)) (append-assoc (octets 4 first) (octets 4 second) (octets 2 difference ++ octets 1 orientation))
+cited-stored l a b at first difference eb ea =
+    behind l a b (octets 4 first ++ octets 4 0) (octets 2 difference ++ octets 1 0) at (at + 16) 8 ea (length-two first 4 0 4) (omega arith) eb
+    ∙ ap (λ (r : List ℕ). sets l at (frame r)) (append-assoc (octets 4 first) (octets 4 0) (octets 2 difference ++ octets 1 0))
 
-pub end-stored : (l a b : List ℕ) (at literal first second difference orientation : ℕ) → b ≡ sets a (at + 4) (frame (citedBytes first second difference orientation))
+pub end-stored : (l a b : List ℕ) (at literal first difference : ℕ) → b ≡ sets a (at + 4) (frame (citedBytes first difference))
     → a ≡ sets l at (hex (octets 1 177 ++ octets 1 literal))
-    → b ≡ sets l at (endFrame (record { literal = literal; first = first; second = second; difference = difference; orientation = orientation }))
+    → b ≡ sets l at (endFrame (record { literal = literal; first = first; difference = difference }))
 unfolding endFrame endBytes octets
-end-stored l a b at literal first second difference orientation eb ea =
-    behind l a b (octets 1 177 ++ octets 1 literal) (citedBytes first second difference orientation) at (at + 4) 2 ea (length-two 177 1 literal 1) (omega arith) eb
-    ∙ ap (λ (r : List ℕ). sets l at (frame r)) (append-assoc (octets 1 177) (octets 1 literal) (citedBytes first second difference orientation))
+end-stored l a b at literal first difference eb ea =
+    behind l a b (octets 1 177 ++ octets 1 literal) (citedBytes first difference) at (at + 4) 2 ea (length-two 177 1 literal 1) (omega arith) eb
+    ∙ ap (λ (r : List ℕ). sets l at (frame r)) (append-assoc (octets 1 177) (octets 1 literal) (citedBytes first difference))
 
-pub end-fields : (l m : List ℕ) (at j literal first second difference orientation : ℕ) (k : Conclusions)
-    → m ≡ sets l at (endFrame (record { literal = literal; first = first; second = second; difference = difference; orientation = orientation }))
-    → orientation ≡ getD (k .orientations) j 0 → difference ≡ getD (k .differences) j 0 → second ≡ getD (k .seconds) j 0 → first ≡ getD (k .firsts) j 0
+pub end-fields : (l m : List ℕ) (at j literal first difference : ℕ) (k : Conclusions)
+    → m ≡ sets l at (endFrame (record { literal = literal; first = first; difference = difference }))
+    → difference ≡ getD (k .differences) j 0 → first ≡ getD (k .firsts) j 0
     → literal ≡ j + 1 → m ≡ sets l at (endFrame (endOf k j))
 unfolding conclusionFrom
-end-fields l m at j literal first second difference orientation k e eo ed es ef el = rw (← eo, ← ed, ← es, ← ef, ← add-one j, ← el) e
+end-fields l m at j literal first difference k e ed ef el = rw (← ed, ← ef, ← add-one j, ← el) e
 
 -- ---- items
 

@@ -134,9 +134,7 @@ module _ (x y z : ℕ) where
 pub record Narrow (c : Conclusion) : Type 0 where
   pub literal : c .literal < 256
   pub first : c .first < 4294967296
-  pub second : c .second < 4294967296
   pub difference : c .difference < 65536
-  pub orientation : c .orientation < 256
 
 module _ (c : Conclusion) where
   abbrev endLine : Line
@@ -146,17 +144,17 @@ module _ (c : Conclusion) where
   unfolding endBytes citedBytes
   end-below = (
     lit< tt,
-    below-append 256 (octets 1 (c .literal)) (octets 4 (c .first) ++ (octets 4 (c .second) ++ (octets 2 (c .difference) ++ octets 1 (c .orientation)))) (octets-below 1 (c .literal))
-        (below-append 256 (octets 4 (c .first)) (octets 4 (c .second) ++ (octets 2 (c .difference) ++ octets 1 (c .orientation))) (octets-below 4 (c .first))
-        (below-append 256 (octets 4 (c .second)) (octets 2 (c .difference) ++ octets 1 (c .orientation)) (octets-below 4 (c .second))
-        (below-append 256 (octets 2 (c .difference)) (octets 1 (c .orientation)) (octets-below 2 (c .difference)) (octets-below 1 (c .orientation))))),
+    below-append 256 (octets 1 (c .literal)) (octets 4 (c .first) ++ (octets 4 0 ++ (octets 2 (c .difference) ++ octets 1 0))) (octets-below 1 (c .literal))
+        (below-append 256 (octets 4 (c .first)) (octets 4 0 ++ (octets 2 (c .difference) ++ octets 1 0)) (octets-below 4 (c .first))
+        (below-append 256 (octets 4 0) (octets 2 (c .difference) ++ octets 1 0) (octets-below 4 0)
+        (below-append 256 (octets 2 (c .difference)) (octets 1 0) (octets-below 2 (c .difference)) (octets-below 1 0)))),
   )
 
   pub end-concludes : concludes endLine ≡ true
   unfolding endBytes citedBytes octets
-  end-concludes = formed-line 177 (octets 1 (c .literal) ++ citedBytes (c .first) (c .second) (c .difference) (c .orientation)) end-below
+  end-concludes = formed-line 177 (octets 1 (c .literal) ++ citedBytes (c .first) (c .difference)) end-below
 
   pub end-back : Narrow c → conclusionOf (digitsOf endLine) ≡ c
   unfolding conclusionOf digitsOf endBytes citedBytes octets
   end-back n =
-      rw (byte-back (endBytes c) 1 end-below, four-at (endBytes c) 2 end-below, four-at (endBytes c) 6 end-below, two-at (endBytes c) 10 end-below, byte-back (endBytes c) 12 end-below, four-value (c .first) (n .first), four-value (c .second) (n .second), two-value (c .difference) (n .difference), byte-value (c .literal) (n .literal), byte-value (c .orientation) (n .orientation)) refl
+      rw (byte-back (endBytes c) 1 end-below, four-at (endBytes c) 2 end-below, two-at (endBytes c) 10 end-below, four-value (c .first) (n .first), two-value (c .difference) (n .difference), byte-value (c .literal) (n .literal)) refl

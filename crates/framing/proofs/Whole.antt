@@ -112,7 +112,7 @@ module _ (firsts seconds thirds : List ℕ) (n : ℕ) (d : Conclusions) where
       ∙ ends-step (getD firsts p 0) (getD seconds p 0) (getD thirds p 0) (linesOf (run piece (suc p) k ++ w)) ∙ ends-steps k (suc p) w (omega arith)
 
   ends-ends : Narrows d → (k : ℕ) (w : List ℕ) → k ≤ 16
-      → conclusionsIn (linesOf (run piece n k ++ w)) ≡ conclusionsFrom (d .firsts) (d .seconds) (d .differences) (d .orientations) k ++ conclusionsIn (linesOf w)
+      → conclusionsIn (linesOf (run piece n k ++ w)) ≡ conclusionsFrom (d .firsts) (d .differences) k ++ conclusionsIn (linesOf w)
   unfolding run conclusionsFrom
   ends-ends h zero w l = refl
   ends-ends h (suc k) w l =
@@ -126,15 +126,15 @@ module _ (firsts seconds thirds : List ℕ) (n : ℕ) (d : Conclusions) where
       ∙ sym (append-assoc before (endOf d k ∷ []) (conclusionsIn (linesOf w)))
     where
       before : List Conclusion
-      before = conclusionsFrom (d .firsts) (d .seconds) (d .differences) (d .orientations) k
+      before = conclusionsFrom (d .firsts) (d .differences) k
 
-  pub ends-all : Narrows d → (m : ℕ) → m ≤ 16 → conclusionsIn (linesOf (run piece 0 (n + m))) ≡ conclusionsFrom (d .firsts) (d .seconds) (d .differences) (d .orientations) m
+  pub ends-all : Narrows d → (m : ℕ) → m ≤ 16 → conclusionsIn (linesOf (run piece 0 (n + m))) ≡ conclusionsFrom (d .firsts) (d .differences) m
   unfolding conclusionsIn linesOf linesFrom
   ends-all h m l =
       let e : 0 + n ≡ n = omega arith in
       ap (λ (z : List ℕ). conclusionsIn (linesOf z)) (run-append piece 0 n m) ∙ ends-steps n 0 (run piece (0 + n) m) (omega arith)
       ∙ ap (λ (i : ℕ). conclusionsIn (linesOf (run piece i m))) e ∙ ap (λ (z : List ℕ). conclusionsIn (linesOf z)) (sym (append-nil (run piece n m)))
-      ∙ ends-ends h m [] l ∙ append-nil (conclusionsFrom (d .firsts) (d .seconds) (d .differences) (d .orientations) m)
+      ∙ ends-ends h m [] l ∙ append-nil (conclusionsFrom (d .firsts) (d .differences) m)
 
 -- ---- the frames
 
@@ -163,6 +163,6 @@ module _ (firsts seconds thirds : List ℕ) (steps : ℕ) (d : Conclusions) (lit
       ap (λ (l : List ℕ). wordsIn 2 (linesOf l)) whole-run
       ∙ words-all firsts seconds thirds n d 2 thirds (omega arith) (λ p. step-third (getD firsts p 0) (getD seconds p 0) (getD thirds p 0) (h p)) (min literals 16)
 
-  pub frames-conclusions : Narrows d → conclusionsIn (linesOf frames) ≡ conclusionsFrom (d .firsts) (d .seconds) (d .differences) (d .orientations) (min literals 16)
+  pub frames-conclusions : Narrows d → conclusionsIn (linesOf frames) ≡ conclusionsFrom (d .firsts) (d .differences) (min literals 16)
   frames-conclusions h =
       ap (λ (l : List ℕ). conclusionsIn (linesOf l)) whole-run ∙ ends-all firsts seconds thirds n d h (min literals 16) (omega arith)

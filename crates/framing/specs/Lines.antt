@@ -26,18 +26,18 @@ stepBytes x y z = 176 ∷ (octets 8 x ++ (octets 8 y ++ octets 8 z))
 unfoldable pub stepFrame : ℕ → ℕ → ℕ → List ℕ
 stepFrame x y z = frame (stepBytes x y z)
 
--- what a conclusion cites
-unfoldable pub citedBytes : ℕ → ℕ → ℕ → ℕ → List ℕ
-citedBytes first second difference orientation = octets 4 first ++ (octets 4 second ++ (octets 2 difference ++ octets 1 orientation))
+-- what a conclusion cites; the four bytes behind the step and the last one are zeros that are not read
+unfoldable pub citedBytes : ℕ → ℕ → List ℕ
+citedBytes first difference = octets 4 first ++ (octets 4 0 ++ (octets 2 difference ++ octets 1 0))
 
 unfoldable pub endBytes : Conclusion → List ℕ
-endBytes c = 177 ∷ (octets 1 (c .literal) ++ citedBytes (c .first) (c .second) (c .difference) (c .orientation))
+endBytes c = 177 ∷ (octets 1 (c .literal) ++ citedBytes (c .first) (c .difference))
 
 unfoldable pub endFrame : Conclusion → List ℕ
 endFrame c = frame (endBytes c)
 
 abbrev pub endOf : Conclusions → ℕ → Conclusion
-endOf d j = conclusionFrom (d .firsts) (d .seconds) (d .differences) (d .orientations) j
+endOf d j = conclusionFrom (d .firsts) (d .differences) j
 
 unfoldable pub itemFrame : List ℕ → List ℕ → List ℕ → ℕ → Conclusions → ℕ → List ℕ
 itemFrame firsts seconds thirds n d p =

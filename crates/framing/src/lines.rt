@@ -64,30 +64,22 @@ pub(crate) fn put_step(x: u64, y: u64, z: u64, lent: &mut [u8], at: usize)
     put_last(y, 8, z, 8, lent, at + 18);
 }
 
-// What stands behind the literal on a conclusion's line.
-fn put_cited(first: u64, second: u64, difference: u64, orientation: u64, lent: &mut [u8], at: usize)
+// What stands behind the literal on a conclusion's line; the places that are not read hold zeros.
+fn put_cited(first: u64, difference: u64, lent: &mut [u8], at: usize)
     requires { ⌜ at + 23 ≤ length (now lent) ⌝ }
-    ensures { λ _. ⌜ now (lent .exit) ≡ sets (now (lent .entry)) at (frame (citedBytes first second difference orientation)) ⌝ }
+    ensures { λ _. ⌜ now (lent .exit) ≡ sets (now (lent .entry)) at (frame (citedBytes first difference)) ⌝ }
 {
-    put_two(first, 4, second, 4, lent, at);
-    put_last(difference, 2, orientation, 1, lent, at + 16);
+    put_two(first, 4, 0, 4, lent, at);
+    put_last(difference, 2, 0, 1, lent, at + 16);
 }
 
 // A conclusion by its fields.
-fn put_fields(
-    literal: u64,
-    first: u64,
-    second: u64,
-    difference: u64,
-    orientation: u64,
-    lent: &mut [u8],
-    at: usize,
-)
+fn put_fields(literal: u64, first: u64, difference: u64, lent: &mut [u8], at: usize)
     requires { ⌜ at + 27 ≤ length (now lent) ⌝ }
-    ensures { λ _. ⌜ now (lent .exit) ≡ sets (now (lent .entry)) at (endFrame (record { literal = literal; first = first; second = second; difference = difference; orientation = orientation })) ⌝ }
+    ensures { λ _. ⌜ now (lent .exit) ≡ sets (now (lent .entry)) at (endFrame (record { literal = literal; first = first; difference = difference })) ⌝ }
 {
     put_two(177, 1, literal, 1, lent, at);
-    put_cited(first, second, difference, orientation, lent, at + 4);
+    put_cited(first, difference, lent, at + 4);
 }
 
 fn wide32(x: u32) -> u64
@@ -102,12 +94,6 @@ fn wide16(x: u16) -> u64
     x as u64
 }
 
-fn wide8(x: u8) -> u64
-    ensures { λ r. ⌜ r ≡ x ⌝ }
-{
-    x as u64
-}
-
 // The conclusion of literal j, from 0; on the line literals are counted from 1.
 pub(crate) fn put_end(d: Conclusions, j: usize, lent: &mut [u8], at: usize)
     requires { ⌜ j < 16 ⌝ }
@@ -115,9 +101,7 @@ pub(crate) fn put_end(d: Conclusions, j: usize, lent: &mut [u8], at: usize)
     ensures { λ _. ⌜ now (lent .exit) ≡ sets (now (lent .entry)) at (endFrame (endOf d j)) ⌝ }
 {
     let first = wide32(d.firsts[j]);
-    let second = wide32(d.seconds[j]);
     let difference = wide16(d.differences[j]);
-    let orientation = wide8(d.orientations[j]);
     let literal = (j + 1) as u64;
-    put_fields(literal, first, second, difference, orientation, lent, at);
+    put_fields(literal, first, difference, lent, at);
 }

@@ -29,7 +29,7 @@ use Rattle.grounding.proofs.Joins.{Sound, same-made}
 use Rattle.grounding.proofs.Complete.{side-term, side-inside}
 
 abbrev pub conclusion : ℕ → Said → Conclusion
-conclusion j s = record { literal = suc j; first = s .first; second = s .second; difference = s .difference; orientation = s .orientation }
+conclusion j s = record { literal = suc j; first = s .first; difference = s .difference }
 
 module _ (c : Context) (k : Clause) (a : List ℕ) (ns : List ℕ) (ready : Ready c k a ns) where
   abbrev N : ℕ

@@ -1,7 +1,7 @@
 -- A conclusion for a literal, by closed classes and for itself alone.
 --     parted, placeSame   whether a stated difference has two labels; the first that has one
 --     Found, sideAt       the same by columns; a side by a column
---     Said                steps, and the four numbers of a conclusion
+--     Said                steps, and the two numbers of a conclusion
 --     saidEqual, saidSame two entries with one label; the first stated difference with one
 --     widened             the equation of two entries is added, and the classes closed again
 --     said, saidBy        for a literal; by its kind and its two entries
@@ -41,20 +41,18 @@ sideAt sides count i = elim (ltb i count) [ true ↦ getD sides i 0 | false ↦ 
 pub record Said : Type 0 where
   pub cells : List ℕ
   pub first : ℕ
-  pub second : ℕ
   pub difference : ℕ
-  pub orientation : ℕ
 
 unfoldable pub saidEqual : List ℕ → List ℕ → ℕ → ℕ → Said
 saidEqual cells table x y =
-    let w : Written = same cells table x y in record { cells = w .cells; first = w .number; second = 0; difference = 0; orientation = 0 }
+    let w : Written = same cells table x y in record { cells = w .cells; first = w .number; difference = 0 }
 
 -- its sides, in the stated order
 unfoldable pub saidSame : List ℕ → List ℕ → List (ℕ × ℕ) → Said
 saidSame cells table diffs =
     let i : ℕ = placeSame table diffs in
     let w : Written = same cells table (leftAt diffs i) (rightAt diffs i) in
-    record { cells = w .cells; first = w .number; second = 0; difference = i + 1; orientation = 0 }
+    record { cells = w .cells; first = w .number; difference = i + 1 }
 
 -- of n entries, by the keys of all
 unfoldable pub widened : ℕ → List Row → ℕ → ℕ → State → State

@@ -171,4 +171,4 @@ module _ (l : Buffer) (bytes : List ℕ) (w : Buffered l bytes) where
 
   pub noted-same : (n : Noted) → noted n (l .values) ≡ noted n (map digit bytes)
   unfolding noted putConclusion
-  noted-same n = rw (byte-same 1 (omega arith), four-same 2 (omega arith), four-same 6 (omega arith), two-same 10 (omega arith), byte-same 12 (omega arith))
+  noted-same n = rw (byte-same 1 (omega arith), four-same 2 (omega arith), two-same 10 (omega arith))

@@ -21,7 +21,7 @@ use Rattle.intake.specs.declared.Noted.{Noted}
 use Rattle.intake.proofs.Filled.{zeros-at}
 
 abbrev pub notedAt : Noted → ℕ → Conclusion
-notedAt n i = conclusionFrom (n .conclusions .firsts) (n .conclusions .seconds) (n .conclusions .differences) (n .conclusions .orientations) i
+notedAt n i = conclusionFrom (n .conclusions .firsts) (n .conclusions .differences) i
 
 pub data Note (n : Noted) (ds : List Conclusion) (i : ℕ) : Type 0 where
   vacant : getD (n .given) i 0 ≡ 0 → notedAt n i ≡ absent (suc i) → ((rest : List Conclusion) → conclusionFor (suc i) (ds ++ rest) ≡ conclusionFor (suc i) rest) → Note n ds i
@@ -29,9 +29,7 @@ pub data Note (n : Noted) (ds : List Conclusion) (i : ℕ) : Type 0 where
 
 pub record Notes (n : Noted) (ds : List Conclusion) : Type 0 where
   pub firsts : length (n .conclusions .firsts) ≡ 16
-  pub seconds : length (n .conclusions .seconds) ≡ 16
   pub differences : length (n .conclusions .differences) ≡ 16
-  pub orientations : length (n .conclusions .orientations) ≡ 16
   pub given : length (n .given) ≡ 16
   pub each : (i : ℕ) → i < 16 → Note n ds i
 
@@ -40,9 +38,7 @@ unfolding noConclusions conclusionFrom
 notes-none =
     record {
       firsts = length-replicate {A = ℕ} 16 0;
-      seconds = length-replicate {A = ℕ} 16 0;
       differences = length-replicate {A = ℕ} 16 0;
-      orientations = length-replicate {A = ℕ} 16 0;
       given = length-replicate {A = ℕ} 16 0;
       each = λ i h. vacant (zeros-at 16 i) (rw (zeros-at 16 i)) (λ rest. refl);
     }
@@ -98,9 +94,7 @@ module _ (n : Noted) (ds : List Conclusion) (w : Notes n ds) (vs : List ℕ) whe
     put-here =
         rw (
           getD-set-same (n .conclusions .firsts) i (fourOf vs 2) 0 (omega (arith, w .firsts)),
-          getD-set-same (n .conclusions .seconds) i (fourOf vs 6) 0 (omega (arith, w .seconds)),
           getD-set-same (n .conclusions .differences) i (twoOf vs 10) 0 (omega (arith, w .differences)),
-          getD-set-same (n .conclusions .orientations) i (byteOf vs 12) 0 (omega (arith, w .orientations)),
           e,
         )
 
@@ -119,9 +113,7 @@ module _ (n : Noted) (ds : List Conclusion) (w : Notes n ds) (vs : List ℕ) whe
     put-other j f =
         rw (
           getD-set-other (n .conclusions .firsts) i j (fourOf vs 2) 0 f,
-          getD-set-other (n .conclusions .seconds) i j (fourOf vs 6) 0 f,
           getD-set-other (n .conclusions .differences) i j (twoOf vs 10) 0 f,
-          getD-set-other (n .conclusions .orientations) i j (byteOf vs 12) 0 f,
         )
 
     given-other : (j : ℕ) → (j ≡ i → ⊥) → getD (putConclusion n vs i .given) j 0 ≡ getD (n .given) j 0
@@ -137,9 +129,7 @@ module _ (n : Noted) (ds : List Conclusion) (w : Notes n ds) (vs : List ℕ) whe
     notes-put =
         record {
           firsts = length-set (n .conclusions .firsts) i (fourOf vs 2) ∙ w .firsts;
-          seconds = length-set (n .conclusions .seconds) i (fourOf vs 6) ∙ w .seconds;
           differences = length-set (n .conclusions .differences) i (twoOf vs 10) ∙ w .differences;
-          orientations = length-set (n .conclusions .orientations) i (byteOf vs 12) ∙ w .orientations;
           given = length-set (n .given) i 1 ∙ w .given;
           each = λ j h. one j h (eqb j i) refl;
         }
@@ -152,9 +142,7 @@ module _ (n : Noted) (ds : List Conclusion) (w : Notes n ds) (vs : List ℕ) whe
   notes-stay f =
       record {
         firsts = w .firsts;
-        seconds = w .seconds;
         differences = w .differences;
-        orientations = w .orientations;
         given = w .given;
         each = λ i h. stays i (f i h) (w .each i h);
       }

@@ -173,19 +173,17 @@ module _ (good : Bool) (size : ℕ) (vs : List ℕ) where
 
 -- ---- the conclusions
 
-pub conclusion-is : (n : Noted) (vs : List ℕ) (i a b c d : ℕ) → a ≡ fourOf vs 2 → b ≡ fourOf vs 6 → c ≡ twoOf vs 10 → d ≡ byteOf vs 12
+pub conclusion-is : (n : Noted) (vs : List ℕ) (i a b : ℕ) → a ≡ fourOf vs 2 → b ≡ twoOf vs 10
     → record {
       conclusions =
           record {
             firsts = set (n .conclusions .firsts) i a;
-            seconds = set (n .conclusions .seconds) i b;
-            differences = set (n .conclusions .differences) i c;
-            orientations = set (n .conclusions .orientations) i d;
+            differences = set (n .conclusions .differences) i b;
           };
       given = set (n .given) i 1;
     } ≡ putConclusion n vs i
 unfolding putConclusion
-conclusion-is n vs i a b c d e f g h = rw (e, f, g, h)
+conclusion-is n vs i a b e f = rw (e, f)
 
 module _ (n : Noted) (vs : List ℕ) (x : ℕ) (e : x ≡ byteOf vs 1) where
   pub note-zero : x ≡ 0 → n ≡ noted n vs

@@ -58,9 +58,7 @@ putConclusion n vs i =
       conclusions =
           record {
             firsts = set (n .conclusions .firsts) i (fourOf vs 2);
-            seconds = set (n .conclusions .seconds) i (fourOf vs 6);
             differences = set (n .conclusions .differences) i (twoOf vs 10);
-            orientations = set (n .conclusions .orientations) i (byteOf vs 12);
           };
       given = set (n .given) i 1;
     }
@@ -104,7 +102,7 @@ unended p = record { head = p .head; line = record { values = p .line .values; s
 unfoldable pub noConclusions : Noted
 noConclusions =
     record {
-      conclusions = record { firsts = replicate 16 0; seconds = replicate 16 0; differences = replicate 16 0; orientations = replicate 16 0 };
+      conclusions = record { firsts = replicate 16 0; differences = replicate 16 0 };
       given = replicate 16 0;
     }
 

@@ -86,8 +86,9 @@ isConclusion = formed 177 26
 unfoldable pub wordOf : Bool → ℕ → List ℕ → ℕ → ℕ
 wordOf good size vs i = choose (isStep good size vs) (eightOf vs (i * 8 + 1)) 0
 
+-- bytes 6 to 9 and 12 are not read
 unfoldable pub conclusionOf : List ℕ → Conclusion
-conclusionOf vs = record { literal = byteOf vs 1; first = fourOf vs 2; second = fourOf vs 6; difference = twoOf vs 10; orientation = byteOf vs 12 }
+conclusionOf vs = record { literal = byteOf vs 1; first = fourOf vs 2; difference = twoOf vs 10 }
 
 abbrev pub concludes : Line → Bool
 concludes l = isConclusion (goodLine l) (length (l .bytes)) (digitsOf l)

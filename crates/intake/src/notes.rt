@@ -15,9 +15,7 @@ pub(crate) fn no_conclusions() -> Noted
 {
     let conclusions = Conclusions {
         firsts: [0; 16],
-        seconds: [0; 16],
         differences: [0; 16],
-        orientations: [0; 16],
     };
     Noted {
         conclusions,
@@ -25,23 +23,16 @@ pub(crate) fn no_conclusions() -> Noted
     }
 }
 
-fn step_at(l: Buffer, i: usize) -> u32
-    requires { ⌜ i < 13 ⌝ }
-    ensures { λ r. ⌜ r ≡ fourOf (l .values) i ⌝ }
+fn step_in(l: Buffer) -> u32
+    ensures { λ r. ⌜ r ≡ fourOf (l .values) 2 ⌝ }
 {
-    four(&l.values, i) as u32
+    four(&l.values, 2) as u32
 }
 
 fn difference_in(l: Buffer) -> u16
     ensures { λ r. ⌜ r ≡ twoOf (l .values) 10 ⌝ }
 {
     two(&l.values, 10) as u16
-}
-
-fn orientation_in(l: Buffer) -> u8
-    ensures { λ r. ⌜ r ≡ byteOf (l .values) 12 ⌝ }
-{
-    byte(&l.values, 12) as u8
 }
 
 fn literal_in(l: Buffer) -> usize
@@ -57,10 +48,8 @@ fn put_conclusion(n: Noted, l: Buffer, i: usize) -> Noted
 {
     let mut c = n.conclusions;
     let mut given = n.given;
-    c.firsts[i] = step_at(l, 2);
-    c.seconds[i] = step_at(l, 6);
+    c.firsts[i] = step_in(l);
     c.differences[i] = difference_in(l);
-    c.orientations[i] = orientation_in(l);
     given[i] = 1;
     Noted {
         conclusions: c,

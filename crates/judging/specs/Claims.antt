@@ -44,7 +44,7 @@ judgementOf (Judged r) = judged (verdictOf r)
 judgementOf (Refused x) = refused (meant x)
 
 abbrev pub concludedIn : Conclusions → List Conclusion
-concludedIn d = conclusionsFrom (d .firsts) (d .seconds) (d .differences) (d .orientations) 16
+concludedIn d = conclusionsFrom (d .firsts) (d .differences) 16
 
 pub record WeighsTo (c : ContextColumns) (k : ClauseColumns) (a firsts seconds thirds : List ℕ) (d : Conclusions) (r : Outcome) : Type 0 where
   pub weighed : Weighed a (stepsFrom firsts seconds thirds) (concludedIn d) (said c) (asked k) (judgementOf r)

@@ -123,9 +123,9 @@ at-instance i = record { mark = 1; row = i }
 abbrev stepOf : ℕ → ℕ → Ref → Ref → ℕ → ℕ → Step
 stepOf owner kind l r x y = record { owner = owner; kind = kind; left = l; right = r; numbers = x ∷ y ∷ 0 ∷ 0 ∷ [] }
 
--- literal l by step s, and by the difference of a and b where it is unequal; the other two numbers are not read
+-- literal l by step s, and by the difference of a and b where it is unequal
 abbrev shown : ℕ → ℕ → Conclusion
-shown l s = record { literal = l; first = s; second = 9; difference = 1; orientation = 9 }
+shown l s = record { literal = l; first = s; difference = 1 }
 
 -- a = b by itself
 abbrev self : List Step

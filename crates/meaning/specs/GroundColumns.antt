@@ -37,21 +37,13 @@ stepsFrom (x ∷ xs) (y ∷ ys) (z ∷ zs) = stepFrom x y z ∷ stepsFrom xs ys 
 unfoldable pub sidesOf : List ℕ → List Step
 sidesOf words = map (λ x. stepFrom x 0 0) words
 
-unfoldable pub conclusionFrom : List ℕ → List ℕ → List ℕ → List ℕ → ℕ → Conclusion
-conclusionFrom firsts seconds differences orientations i =
-    record {
-      literal = suc i;
-      first = getD firsts i 0;
-      second = getD seconds i 0;
-      difference = getD differences i 0;
-      orientation = getD orientations i 0;
-    }
+unfoldable pub conclusionFrom : List ℕ → List ℕ → ℕ → Conclusion
+conclusionFrom firsts differences i = record { literal = suc i; first = getD firsts i 0; difference = getD differences i 0 }
 
 -- for the first n literals
-unfoldable pub conclusionsFrom : List ℕ → List ℕ → List ℕ → List ℕ → ℕ → List Conclusion
-conclusionsFrom firsts seconds differences orientations zero = []
-conclusionsFrom firsts seconds differences orientations (suc n) =
-    conclusionsFrom firsts seconds differences orientations n ++ (conclusionFrom firsts seconds differences orientations n ∷ [])
+unfoldable pub conclusionsFrom : List ℕ → List ℕ → ℕ → List Conclusion
+conclusionsFrom firsts differences zero = []
+conclusionsFrom firsts differences (suc n) = conclusionsFrom firsts differences n ++ (conclusionFrom firsts differences n ∷ [])
 
 -- the first n
 unfoldable pub pairsFrom : List ℕ → List ℕ → ℕ → List (ℕ × ℕ)

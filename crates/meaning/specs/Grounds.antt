@@ -31,13 +31,11 @@ pub record Step : Type 0 where
   pub right : Ref
   pub numbers : List ℕ
 
--- second and orientation are not read
+-- how a literal is shown: by a step, and for an unequal literal a stated difference
 pub record Conclusion : Type 0 where
   pub literal : ℕ
   pub first : ℕ
-  pub second : ℕ
   pub difference : ℕ
-  pub orientation : ℕ
 
 -- past the last one
 abbrev pub ref₀ : Ref
@@ -147,7 +145,7 @@ module _ (c : Context) (k : Clause) (a : List ℕ) where
 
 -- cites no step
 abbrev pub absent : ℕ → Conclusion
-absent n = record { literal = n; first = 0; second = 0; difference = 0; orientation = 0 }
+absent n = record { literal = n; first = 0; difference = 0 }
 
 -- of two conclusions for one literal the first counts
 unfoldable pub conclusionFor : ℕ → List Conclusion → Conclusion

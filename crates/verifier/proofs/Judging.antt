@@ -38,33 +38,33 @@ use Rattle.verifier.proofs.Running.{steps-shortest}
 -- ---- conclusions in columns
 
 -- the conclusion for a literal after some for others
-conclusion-past : (fs ss ds os : List ℕ) (n x : ℕ) (rest : List Conclusion) → n ≤ x → conclusionFor (suc x) (conclusionsFrom fs ss ds os n ++ rest) ≡ conclusionFor (suc x) rest
+conclusion-past : (fs ds : List ℕ) (n x : ℕ) (rest : List Conclusion) → n ≤ x → conclusionFor (suc x) (conclusionsFrom fs ds n ++ rest) ≡ conclusionFor (suc x) rest
 unfolding conclusionsFrom conclusionFor conclusionFrom
-conclusion-past fs ss ds os zero x rest h = refl
-conclusion-past fs ss ds os (suc n) x rest h =
-    ap (conclusionFor (suc x)) (append-assoc (conclusionsFrom fs ss ds os n) (conclusionFrom fs ss ds os n ∷ []) rest)
-    ∙ conclusion-past fs ss ds os n x (conclusionFrom fs ss ds os n ∷ rest) (omega arith)
+conclusion-past fs ds zero x rest h = refl
+conclusion-past fs ds (suc n) x rest h =
+    ap (conclusionFor (suc x)) (append-assoc (conclusionsFrom fs ds n) (conclusionFrom fs ds n ∷ []) rest)
+    ∙ conclusion-past fs ds n x (conclusionFrom fs ds n ∷ rest) (omega arith)
     ∙ skip
   where
-    skip : conclusionFor (suc x) (conclusionFrom fs ss ds os n ∷ rest) ≡ conclusionFor (suc x) rest
+    skip : conclusionFor (suc x) (conclusionFrom fs ds n ∷ rest) ≡ conclusionFor (suc x) rest
     skip = rw (ne-eqb (suc n) (suc x) (λ e. omega arith), conclusionFor)
 
-pub conclusions-at : (fs ss ds os : List ℕ) (n j : ℕ) (rest : List Conclusion) → j < n
-    → conclusionFor (suc j) (conclusionsFrom fs ss ds os n ++ rest) ≡ conclusionFrom fs ss ds os j
+pub conclusions-at : (fs ds : List ℕ) (n j : ℕ) (rest : List Conclusion) → j < n
+    → conclusionFor (suc j) (conclusionsFrom fs ds n ++ rest) ≡ conclusionFrom fs ds j
 unfolding conclusionsFrom conclusionFor conclusionFrom
-conclusions-at fs ss ds os zero j rest h = absurd (omega arith)
-conclusions-at fs ss ds os (suc n) j rest h =
-    ap (conclusionFor (suc j)) (append-assoc (conclusionsFrom fs ss ds os n) (conclusionFrom fs ss ds os n ∷ []) rest) ∙ go (ltb j n) refl (conclusions-at fs ss ds os n j (conclusionFrom fs ss ds os n ∷ rest))
+conclusions-at fs ds zero j rest h = absurd (omega arith)
+conclusions-at fs ds (suc n) j rest h =
+    ap (conclusionFor (suc j)) (append-assoc (conclusionsFrom fs ds n) (conclusionFrom fs ds n ∷ []) rest) ∙ go (ltb j n) refl (conclusions-at fs ds n j (conclusionFrom fs ds n ∷ rest))
   where
     go : (b : Bool) → ltb j n ≡ b
-        → (j < n → conclusionFor (suc j) (conclusionsFrom fs ss ds os n ++ (conclusionFrom fs ss ds os n ∷ rest)) ≡ conclusionFrom fs ss ds os j)
-        → conclusionFor (suc j) (conclusionsFrom fs ss ds os n ++ (conclusionFrom fs ss ds os n ∷ rest)) ≡ conclusionFrom fs ss ds os j
+        → (j < n → conclusionFor (suc j) (conclusionsFrom fs ds n ++ (conclusionFrom fs ds n ∷ rest)) ≡ conclusionFrom fs ds j)
+        → conclusionFor (suc j) (conclusionsFrom fs ds n ++ (conclusionFrom fs ds n ∷ rest)) ≡ conclusionFrom fs ds j
     go true e ih = ih (ltb-true j n e)
     go false e ih =
         let z : j ≡ n = omega (arith, ltb-false j n e) in
-        rw z (conclusion-past fs ss ds os n n (conclusionFrom fs ss ds os n ∷ rest) (omega arith) ∙ here)
+        rw z (conclusion-past fs ds n n (conclusionFrom fs ds n ∷ rest) (omega arith) ∙ here)
       where
-        here : conclusionFor (suc n) (conclusionFrom fs ss ds os n ∷ rest) ≡ conclusionFrom fs ss ds os n
+        here : conclusionFor (suc n) (conclusionFrom fs ds n ∷ rest) ≡ conclusionFrom fs ds n
         here = rw (eq-eqb (suc n) (suc n) refl, conclusionFor)
 
 -- ---- literals judged by words
@@ -94,17 +94,17 @@ module _ (ns : List ℕ) (n m : ℕ) (diffs : List (ℕ × ℕ)) (firsts seconds
   concludes-words o d (equal p q) = cited-words 0 (d .first) (numberAt ns (n + p)) (numberAt ns (n + q))
   concludes-words o d (unequal p q) = differs-words o d
 
-  module _ (fs ss dd os signs ls rs : List ℕ) (literals : ℕ) (few : literals ≤ 16) where
+  module _ (fs dd signs ls rs : List ℕ) (literals : ℕ) (few : literals ≤ 16) where
     abbrev ds : List Conclusion
-    ds = conclusionsFrom fs ss dd os 16
+    ds = conclusionsFrom fs dd 16
 
     concluded-words : (j : ℕ) → j < literals
         → concludedWords ns n m diffs (sidesOf firsts) limit fs dd signs ls rs j ≡ concludedBy ns n m diffs (literalsFrom signs ls rs literals) steps ds j
     unfolding concludedBy conclusionFrom
     concluded-words j h =
-        concludes-words (suc j) (conclusionFrom fs ss dd os j) (literalOf (getD signs j 0) (getD ls j 0) (getD rs j 0))
+        concludes-words (suc j) (conclusionFrom fs dd j) (literalOf (getD signs j 0) (getD ls j 0) (getD rs j 0))
         ∙ ap₂ (λ (d : Conclusion) (x : Literal). concludesBy ns n m diffs steps (suc j) d x)
-        (sym (ap (conclusionFor (suc j)) (sym (append-nil ds)) ∙ conclusions-at fs ss dd os 16 j [] (omega arith)))
+        (sym (ap (conclusionFor (suc j)) (sym (append-nil ds)) ∙ conclusions-at fs dd 16 j [] (omega arith)))
         (sym (literals-at signs ls rs literals j h))
 
     ends-words : (j : ℕ) → Ends (concludedWords ns n m diffs (sidesOf firsts) limit fs dd signs ls rs) literals j
@@ -208,19 +208,19 @@ module _ (symbols counts args : List ℕ) (rows : ℕ) (kinds lefts rights : Lis
 
       module _ (firsts seconds thirds : List ℕ) (i : ℕ)
           (ei : Ends (followsBy (t .numbers) rows patterns (rowsFrom (t .symbols) (t .counts) (t .args) (rows + patterns)) (numbered (t .numbers) (pairsOf true (statementsFrom kinds lefts rights statements))) (literalsFrom signs ls rs literals) (stepsFrom firsts seconds thirds)) (length (stepsFrom firsts seconds thirds)) i)
-          (fs ss dd os : List ℕ) where
+          (fs dd : List ℕ) where
         abbrev given : List Step
         given = stepsFrom firsts seconds thirds
 
         abbrev conclusions : List Conclusion
-        conclusions = conclusionsFrom fs ss dd os 16
+        conclusions = conclusionsFrom fs dd 16
 
         step-ends : Ends (followsBy (t .numbers) (length rs′) (length (patternsFrom shapes heads arities subs patterns)) (keysOf (t .numbers) all) (numbered (t .numbers) (equationsOf (statementsFrom kinds lefts rights statements))) (literalsFrom signs ls rs literals) given) (length given) i
         unfolding pairsOf
         step-ends =
             rw (length-rows symbols counts args rows, length-patterns shapes heads arities subs patterns, ← keys-filled all t (rows + patterns) f all-long) ei
 
-        pub judge-bad : (n : ℕ) → n ≡ length (stepsFrom firsts seconds thirds) → i < n → Verified c k a (stepsFrom firsts seconds thirds) (conclusionsFrom fs ss dd os 16) (bad (i + 1))
+        pub judge-bad : (n : ℕ) → n ≡ length (stepsFrom firsts seconds thirds) → i < n → Verified c k a (stepsFrom firsts seconds thirds) (conclusionsFrom fs dd 16) (bad (i + 1))
         unfolding contextFrom clauseFrom
         judge-bad n e h = rw (add-one i) (verdict-bad c k a given conclusions (t .numbers) ready i step-ends (omega arith))
 
@@ -230,15 +230,15 @@ module _ (symbols counts args : List ℕ) (rows : ℕ) (kinds lefts rights : Lis
           unfolding pairsOf
           literal-ends =
               rw (length-rows symbols counts args rows, length-patterns shapes heads arities subs patterns, length-literals signs ls rs literals)
-              (ends-words (t .numbers) rows patterns (numbered (t .numbers) (pairsOf false (statementsFrom kinds lefts rights statements))) firsts seconds thirds n en fs ss dd os signs ls rs literals (w .fewLiterals) j ej)
+              (ends-words (t .numbers) rows patterns (numbered (t .numbers) (pairsOf false (statementsFrom kinds lefts rights statements))) firsts seconds thirds n en fs dd signs ls rs literals (w .fewLiterals) j ej)
 
-          pub judge-open : j < literals → Verified c k a (stepsFrom firsts seconds thirds) (conclusionsFrom fs ss dd os 16) (unconcluded (j + 1))
+          pub judge-open : j < literals → Verified c k a (stepsFrom firsts seconds thirds) (conclusionsFrom fs dd 16) (unconcluded (j + 1))
           unfolding contextFrom clauseFrom
           judge-open h =
               rw (add-one j)
               (verdict-unconcluded c k a given conclusions (t .numbers) ready i j step-ends (omega arith) literal-ends (omega (arith, length-literals signs ls rs literals)))
 
-          pub judge-accepted : literals ≤ j → Verified c k a (stepsFrom firsts seconds thirds) (conclusionsFrom fs ss dd os 16) accepted
+          pub judge-accepted : literals ≤ j → Verified c k a (stepsFrom firsts seconds thirds) (conclusionsFrom fs dd 16) accepted
           unfolding contextFrom clauseFrom
           judge-accepted h =
               verdict-accepted c k a given conclusions (t .numbers) ready i j step-ends (omega arith) literal-ends (omega (arith, length-literals signs ls rs literals))

@@ -35,12 +35,10 @@ pub enum Answer {
     Unconcluded(usize),
 }
 
-// A place for each literal; an absent conclusion cites step 0. Second steps and orientations are not read.
+// A place for each literal; an absent conclusion cites step 0.
 pub struct Conclusions {
     pub firsts: [u32; 16],
-    pub seconds: [u32; 16],
     pub differences: [u16; 16],
-    pub orientations: [u8; 16],
 }
 
 // How many places for arguments there are.
@@ -167,7 +165,7 @@ fn judge_by<'a>(
     requires { ⌜ WellFormed (now symbols) (now counts) (now args) rows (now kinds) (now lefts) (now rights) statements (now shapes) (now heads) (now arities) (now subs) patterns (now signs) (now ls) (now rs) literals ⌝ }
     requires { ⌜ Chosen rows (now shapes) (now heads) (now arities) (now subs) patterns asg ⌝ }
     requires { ⌜ Filled (entries (rowsFrom (now symbols) (now counts) (now args) rows) asg (patternsFrom (now shapes) (now heads) (now arities) (now subs) patterns)) t (rows + patterns) ⌝ }
-    ensures { λ r. ⌜ Verified (contextFrom (now (symbols .entry)) (now (counts .entry)) (now (args .entry)) rows (now (kinds .entry)) (now (lefts .entry)) (now (rights .entry)) statements) (clauseFrom (now (shapes .entry)) (now (heads .entry)) (now (arities .entry)) (now (subs .entry)) patterns (now (signs .entry)) (now (ls .entry)) (now (rs .entry)) literals) asg (stepsFrom (now (firsts .entry)) (now (seconds .entry)) (now (thirds .entry))) (conclusionsFrom (d .firsts) (d .seconds) (d .differences) (d .orientations) 16) (verdictOf r) ⌝ }
+    ensures { λ r. ⌜ Verified (contextFrom (now (symbols .entry)) (now (counts .entry)) (now (args .entry)) rows (now (kinds .entry)) (now (lefts .entry)) (now (rights .entry)) statements) (clauseFrom (now (shapes .entry)) (now (heads .entry)) (now (arities .entry)) (now (subs .entry)) patterns (now (signs .entry)) (now (ls .entry)) (now (rs .entry)) literals) asg (stepsFrom (now (firsts .entry)) (now (seconds .entry)) (now (thirds .entry))) (conclusionsFrom (d .firsts) (d .differences) 16) (verdictOf r) ⌝ }
 {
     let i = bad_step(
         kinds,
@@ -239,7 +237,7 @@ fn judge_steps<'a>(
     requires { ⌜ WellFormed (now symbols) (now counts) (now args) rows (now kinds) (now lefts) (now rights) statements (now shapes) (now heads) (now arities) (now subs) patterns (now signs) (now ls) (now rs) literals ⌝ }
     requires { ⌜ Chosen rows (now shapes) (now heads) (now arities) (now subs) patterns asg ⌝ }
     requires { ⌜ Long (now args) (now subs) ⌝ }
-    ensures { λ r. ⌜ Verified (contextFrom (now (symbols .entry)) (now (counts .entry)) (now (args .entry)) rows (now (kinds .entry)) (now (lefts .entry)) (now (rights .entry)) statements) (clauseFrom (now (shapes .entry)) (now (heads .entry)) (now (arities .entry)) (now (subs .entry)) patterns (now (signs .entry)) (now (ls .entry)) (now (rs .entry)) literals) asg (stepsFrom (now (firsts .entry)) (now (seconds .entry)) (now (thirds .entry))) (conclusionsFrom (d .firsts) (d .seconds) (d .differences) (d .orientations) 16) (verdictOf r) ⌝ }
+    ensures { λ r. ⌜ Verified (contextFrom (now (symbols .entry)) (now (counts .entry)) (now (args .entry)) rows (now (kinds .entry)) (now (lefts .entry)) (now (rights .entry)) statements) (clauseFrom (now (shapes .entry)) (now (heads .entry)) (now (arities .entry)) (now (subs .entry)) patterns (now (signs .entry)) (now (ls .entry)) (now (rs .entry)) literals) asg (stepsFrom (now (firsts .entry)) (now (seconds .entry)) (now (thirds .entry))) (conclusionsFrom (d .firsts) (d .differences) 16) (verdictOf r) ⌝ }
 {
     let t = fill(
         symbols,
@@ -306,7 +304,7 @@ pub fn judge<'a>(
     d: Conclusions,
 ) -> Answer
     requires { ⌜ WellFormed (now symbols) (now counts) (now args) rows (now kinds) (now lefts) (now rights) statements (now shapes) (now heads) (now arities) (now subs) patterns (now signs) (now ls) (now rs) literals ⌝ }
-    ensures { λ r. ⌜ Verified (contextFrom (now (symbols .entry)) (now (counts .entry)) (now (args .entry)) rows (now (kinds .entry)) (now (lefts .entry)) (now (rights .entry)) statements) (clauseFrom (now (shapes .entry)) (now (heads .entry)) (now (arities .entry)) (now (subs .entry)) patterns (now (signs .entry)) (now (ls .entry)) (now (rs .entry)) literals) asg (stepsFrom (now (firsts .entry)) (now (seconds .entry)) (now (thirds .entry))) (conclusionsFrom (d .firsts) (d .seconds) (d .differences) (d .orientations) 16) (verdictOf r) ⌝ }
+    ensures { λ r. ⌜ Verified (contextFrom (now (symbols .entry)) (now (counts .entry)) (now (args .entry)) rows (now (kinds .entry)) (now (lefts .entry)) (now (rights .entry)) statements) (clauseFrom (now (shapes .entry)) (now (heads .entry)) (now (arities .entry)) (now (subs .entry)) patterns (now (signs .entry)) (now (ls .entry)) (now (rs .entry)) literals) asg (stepsFrom (now (firsts .entry)) (now (seconds .entry)) (now (thirds .entry))) (conclusionsFrom (d .firsts) (d .differences) 16) (verdictOf r) ⌝ }
 {
     let n = variables(shapes, heads, arities, subs, patterns);
     let v = first_unassigned(asg, rows, n);

@@ -155,7 +155,7 @@ verify-prints input m r w (answers h k o q p) =
     alike : (i : ℕ) → i < 16 → conclusionFor (suc i) (concludedIn (m .parser .noted .conclusions)) ≡ conclusionFor (suc i) (conclusionsIn (drop 1 (groundLines input)))
     alike i l =
         ap (conclusionFor (suc i)) (sym (append-nil (concludedIn (m .parser .noted .conclusions))))
-        ∙ conclusions-at (m .parser .noted .conclusions .firsts) (m .parser .noted .conclusions .seconds) (m .parser .noted .conclusions .differences) (m .parser .noted .conclusions .orientations) 16 i [] l
+        ∙ conclusions-at (m .parser .noted .conclusions .firsts) (m .parser .noted .conclusions .differences) 16 i [] l
         ∙ notes-count (m .parser .noted) (conclusionsIn (drop 1 (groundLines input))) (w .gathered .notes) i l
 
     judged-so : Judges (placesIn (groundLines input)) (stepsFrom (column input 0) (column input 1) (column input 2)) (conclusionsIn (drop 1 (groundLines input))) narrow (textOf input) (judgementOf o)

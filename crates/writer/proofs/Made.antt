@@ -15,7 +15,7 @@ use Rattle.writer.specs.Claims.{most, space, noConclusions}
 use Rattle.writer.specs.Drawing.{bareWith, refusedWith}
 use Rattle.writer.specs.declared.Grounds.{Grounds}
 
-pub none-made : record { firsts = replicate 16 0; seconds = replicate 16 0; differences = replicate 16 0; orientations = replicate 16 0 } ≡ noConclusions
+pub none-made : record { firsts = replicate 16 0; differences = replicate 16 0 } ≡ noConclusions
 unfolding noConclusions
 none-made = refl
 

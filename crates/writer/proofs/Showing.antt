@@ -10,7 +10,7 @@ use mathlib.Core.List.{List, [], append-nil}
 use mathlib.Core.Path.{_≡_, refl, ap, sym, _∙_, subst}
 use Prim.Native.Nat.{ℕ, zero, suc, _≤_, _<_}
 use native.Mathlib.Omega.{arith}
-use lib.ListN.{length, getD, take, replicate}
+use lib.ListN.{length, getD, take}
 use Rattle.meaning.specs.Context.{Term, Context}
 use Rattle.meaning.specs.Rules.{variables, Clause, AllHold}
 use Rattle.meaning.specs.Formed.{Formed}
@@ -27,7 +27,7 @@ use Rattle.grounding.proofs.Drafts.{Follow, length-draft}
 use Rattle.batches.specs.Sending.{stepsIn as stepsOf, Small}
 use Rattle.batches.specs.Drawing.{Drawn, drawn, endWritten, Used, by-step, by-end}
 use Rattle.batches.proofs.Marks.{draft-at}
-use Rattle.batches.proofs.Draws.{Drawing, end-columns}
+use Rattle.batches.proofs.Draws.{Drawing}
 use Rattle.batches.proofs.Breaches.{breach-said, breach-start, breach-next, breach-accepted}
 use Rattle.emitting.specs.Emitting.{Kinded}
 use Rattle.finder.specs.declared.Outcome.{Outcome}
@@ -128,8 +128,7 @@ module _ (c : Context) (k : Clause) (a : List ℕ) (formed : Formed c k)
     unfolding endsWith
     said j h =
         ap (conclusionFor (suc j)) (sym (append-nil (concludedIn d)))
-        ∙ conclusions-at (end .ends) (replicate 16 0) (end .differences) (replicate 16 0) 16 j [] (omega (arith, fewLiterals))
-        ∙ end-columns end j
+        ∙ conclusions-at (end .ends) (end .differences) 16 j [] (omega (arith, fewLiterals))
 
     verified : Verified c k a steps (concludedIn d) accepted
     unfolding turnsOf settledOf drawn

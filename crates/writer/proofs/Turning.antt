@@ -257,7 +257,7 @@ module _ (c : ContextColumns) (k : ClauseColumns) (t : Table) (firsts seconds th
     turning-third = long c k (w .places) t (w .tabled) firsts seconds thirds (w .room) j at .2
 
 pub ends-made : (ends differences : List ℕ)
-    → _≡_ {A = Conclusions} (record { firsts = ends; seconds = replicate 16 0; differences = differences; orientations = replicate 16 0 }) (endsWith ends differences)
+    → _≡_ {A = Conclusions} (record { firsts = ends; differences = differences }) (endsWith ends differences)
 unfolding endsWith
 ends-made ends differences = refl
 

@@ -45,7 +45,7 @@ pub record Kept (n : ℕ) (before after : List ℕ) : Type 0 where
   pub rest : drop n after ≡ drop n before
 
 unfoldable pub noConclusions : Conclusions
-noConclusions = record { firsts = replicate 16 0; seconds = replicate 16 0; differences = replicate 16 0; orientations = replicate 16 0 }
+noConclusions = record { firsts = replicate 16 0; differences = replicate 16 0 }
 
 -- the first n steps of three columns
 abbrev pub stepsIn : ℕ → List ℕ → List ℕ → List ℕ → List Step

@@ -151,9 +151,9 @@ pub record Drew (c : Context) (k : Clause) (t : Table) (firsts seconds thirds : 
   pub stands : Stands cells news next firsts′ seconds′ thirds′ ends differences (turnsOf c k t (length (k .literals)) firsts seconds thirds)
   pub small : (j : ℕ) → j < length (k .literals) → Small (saidOf c k t j (turnsOf c k t j firsts seconds thirds .cells) .cells)
 
--- second steps and orientations are not read
+-- a step and a stated difference in each place
 unfoldable pub endsWith : List ℕ → List ℕ → Conclusions
-endsWith ends differences = record { firsts = ends; seconds = replicate 16 0; differences = differences; orientations = replicate 16 0 }
+endsWith ends differences = record { firsts = ends; differences = differences }
 
 pub record Draws (c : ContextColumns) (k : ClauseColumns) (n : ℕ) (a firsts seconds thirds : List ℕ) (r : Grounds) (firsts′ seconds′ thirds′ : List ℕ) : Type 0 where
   pub outcome : r .outcome ≡ O.Breach n

@@ -56,9 +56,7 @@ pub fn no_conclusions() -> Conclusions
 {
     Conclusions {
         firsts: [0; 16],
-        seconds: [0; 16],
         differences: [0; 16],
-        orientations: [0; 16],
     }
 }
 
@@ -356,9 +354,7 @@ fn ends_with(ends: [u32; 16], differences: [u16; 16]) -> Conclusions
 {
     Conclusions {
         firsts: ends,
-        seconds: [0; 16],
         differences,
-        orientations: [0; 16],
     }
 }
 

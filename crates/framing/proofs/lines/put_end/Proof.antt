@@ -13,15 +13,6 @@ element-copy-out-wide32 c = search mine
 wide32-requires : tie.Need-wide32-requires
 wide32-requires c κs = search mine
 
-mul-wide32-2 : tie.Need-mul-wide32-2
-mul-wide32-2 c = search mine
-
-element-copy-out-wide32-2 : tie.Need-element-copy-out-wide32-2
-element-copy-out-wide32-2 c = search mine
-
-wide32-requires-2 : tie.Need-wide32-requires-2
-wide32-requires-2 c κs = search mine
-
 mul-wide16 : tie.Need-mul-wide16
 mul-wide16 c = search mine
 
@@ -30,12 +21,6 @@ element-copy-out-wide16 c = search mine
 
 wide16-requires : tie.Need-wide16-requires
 wide16-requires c κs = search mine
-
-element-copy-out-wide8 : tie.Need-element-copy-out-wide8
-element-copy-out-wide8 c = search mine
-
-wide8-requires : tie.Need-wide8-requires
-wide8-requires c κs = search mine
 
 add-literal : tie.Need-add-literal
 add-literal c = search mine
@@ -56,14 +41,9 @@ put-end-spec =
     mul-wide32
     element-copy-out-wide32
     wide32-requires
-    mul-wide32-2
-    element-copy-out-wide32-2
-    wide32-requires-2
     mul-wide16
     element-copy-out-wide16
     wide16-requires
-    element-copy-out-wide8
-    wide8-requires
     add-literal
     put-fields-requires
     same-length
