@@ -12,7 +12,7 @@ ghost use Rattle.meaning.specs.Columns.{rowFrom};
 ghost use Rattle.meaning.specs.Checking.{keyOf, sameKey};
 ghost use Rattle.numbering.specs.Keys.{Keyed, keyRow, argNumber, after, patternRow, RowFits, PatternFits, Like};
 
-pub struct Key {
+pub(crate) struct Key {
     pub symbol: u16,
     pub count: u8,
     pub args: [u16; 4],
@@ -106,7 +106,7 @@ fn same_key<'a>(
 }
 
 // The number of the first entry before entry e that has its key, or e.
-pub fn like<'a>(
+pub(crate) fn like<'a>(
     symbols: &'a [u16; 319],
     counts: &'a [u8; 319],
     args: &'a [u16; 1276],
@@ -128,7 +128,7 @@ pub fn like<'a>(
 }
 
 // The key of context row i.
-pub fn row_key<'a>(
+pub(crate) fn row_key<'a>(
     symbols: &'a [u16; 255],
     counts: &'a [u8; 255],
     args: &'a [u16; 1020],
@@ -148,7 +148,7 @@ pub fn row_key<'a>(
 }
 
 // The key of pattern row p, a symbol over pattern rows.
-pub fn pattern_key<'a>(
+pub(crate) fn pattern_key<'a>(
     heads: &'a [u16; 64],
     counts: &'a [u8; 64],
     args: &'a [u16; 256],
@@ -170,7 +170,7 @@ pub fn pattern_key<'a>(
 }
 
 // The key of an entry that has one.
-pub fn held_key<'a>(
+pub(crate) fn held_key<'a>(
     symbols: &'a [u16; 319],
     counts: &'a [u8; 319],
     args: &'a [u16; 1276],

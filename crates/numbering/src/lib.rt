@@ -1,5 +1,5 @@
 // One number for each term: the context's rows, and then the pattern rows under an assignment.
-pub mod keys;
+mod keys;
 pub mod numbers;
 pub mod pairs;
 pub mod table;

@@ -8,7 +8,7 @@ ghost use Rattle.grounding.specs.Draft.{Wrote};
 ghost use Rattle.grounding.specs.Classes.{labelIn, whyIn, ownStep, Left, same as sameBy, bridge as bridgeBy, Hit, sizeIn, carry as carryBy, carried, moved, joined};
 
 // An entry's label, and 0 past the last place.
-pub fn label(table: &[u16; 638], x: u16) -> u16
+pub(crate) fn label(table: &[u16; 638], x: u16) -> u16
     ensures { λ r. ⌜ r ≡ labelIn (now (table .entry)) x ⌝ }
 {
     let i = wide(x);
@@ -17,7 +17,7 @@ pub fn label(table: &[u16; 638], x: u16) -> u16
 }
 
 // The step that an entry is equal to its label.
-pub fn why(table: &[u16; 638], x: u16) -> u16
+fn why(table: &[u16; 638], x: u16) -> u16
     ensures { λ r. ⌜ r ≡ whyIn (now (table .entry)) x ⌝ }
 {
     let i = 319 + wide(x);
@@ -109,7 +109,14 @@ fn move_class(cells: &mut [u16; 114689], table: &mut [u16; 638], n: usize, s: u1
 }
 
 // The smaller of the classes of x and y moves to the other, where step s is x = y.
-pub fn join(cells: &mut [u16; 114689], table: &mut [u16; 638], n: usize, s: u16, x: u16, y: u16)
+pub(crate) fn join(
+    cells: &mut [u16; 114689],
+    table: &mut [u16; 638],
+    n: usize,
+    s: u16,
+    x: u16,
+    y: u16,
+)
     requires { ⌜ n ≤ 319 ⌝ }
     ensures { λ _. ⌜ Left (now (cells .exit)) (now (table .exit)) (joined n s x y (record { cells = now (cells .entry); table = now (table .entry) })) ⌝ }
 {

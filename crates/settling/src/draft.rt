@@ -3,7 +3,7 @@ use numbering::numbers::wide;
 ghost use Rattle.grounding.specs.Draft.{Wrote, pushed, turned as back, linked as over};
 
 // The number of one step more, or 0 where there is no room.
-pub fn push(
+pub(crate) fn push(
     cells: &mut [u16; 114689],
     kind: u16,
     x: u16,
@@ -33,7 +33,7 @@ pub fn push(
 }
 
 // The number of y = x, where step s is x = y.
-pub fn turned(cells: &mut [u16; 114689], s: u16, x: u16, y: u16) -> u16
+pub(crate) fn turned(cells: &mut [u16; 114689], s: u16, x: u16, y: u16) -> u16
     ensures { λ r. ⌜ Wrote (now (cells .exit)) r (back (now (cells .entry)) s x y) ⌝ }
 {
     if x == y {
@@ -44,7 +44,7 @@ pub fn turned(cells: &mut [u16; 114689], s: u16, x: u16, y: u16) -> u16
 }
 
 // The number of x = y, where step s is x = m, and step t is m = y.
-pub fn linked(cells: &mut [u16; 114689], s: u16, t: u16, x: u16, m: u16, y: u16) -> u16
+pub(crate) fn linked(cells: &mut [u16; 114689], s: u16, t: u16, x: u16, m: u16, y: u16) -> u16
     ensures { λ r. ⌜ Wrote (now (cells .exit)) r (over (now (cells .entry)) s t x m y) ⌝ }
 {
     if x == m {

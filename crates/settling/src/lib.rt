@@ -1,6 +1,6 @@
 // Closed classes of entries, with numbered steps that show them.
 pub mod classes;
-pub mod draft;
+mod draft;
 pub mod rounds;
 
 use rounds::join_pair;

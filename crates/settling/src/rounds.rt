@@ -27,7 +27,12 @@ fn start_one(cells: &mut [u16; 114689], table: &mut [u16; 638], numbers: &[u16; 
 }
 
 // Each of the first n entries.
-pub fn start(cells: &mut [u16; 114689], table: &mut [u16; 638], numbers: &[u16; 319], n: usize)
+pub(crate) fn start(
+    cells: &mut [u16; 114689],
+    table: &mut [u16; 638],
+    numbers: &[u16; 319],
+    n: usize,
+)
     requires { ⌜ n ≤ 319 ⌝ }
     ensures { λ _. ⌜ Left (now (cells .exit)) (now (table .exit)) (upto n (startOne (now (numbers .entry))) (record { cells = now (cells .entry); table = now (table .entry) })) ⌝ }
 {
@@ -39,7 +44,7 @@ pub fn start(cells: &mut [u16; 114689], table: &mut [u16; 638], numbers: &[u16; 
 }
 
 // The classes of x and y are joined by a step of a kind, with one number, where their labels differ.
-pub fn join_pair(
+pub(crate) fn join_pair(
     cells: &mut [u16; 114689],
     table: &mut [u16; 638],
     n: usize,
@@ -59,7 +64,7 @@ pub fn join_pair(
 }
 
 // The sides of each stated equation are joined.
-pub fn state_all<'a>(
+pub(crate) fn state_all<'a>(
     cells: &mut [u16; 114689],
     table: &mut [u16; 638],
     n: usize,
@@ -322,7 +327,7 @@ fn pass<'a>(
 }
 
 // Passes till one writes no step.
-pub fn rounds<'a>(
+pub(crate) fn rounds<'a>(
     cells: &mut [u16; 114689],
     table: &mut [u16; 638],
     symbols: &'a [u16; 319],

@@ -20,7 +20,7 @@ fn reached(n: usize, kind: u8, head: u16) -> usize
 }
 
 // The number of variables of the first so many pattern rows.
-pub fn variables<'a>(
+pub(crate) fn variables<'a>(
     kinds: &'a [u8; 64],
     heads: &'a [u16; 64],
     counts: &'a [u8; 64],
@@ -47,7 +47,7 @@ fn assigned(asg: [u16; 4], rows: usize, v: usize) -> bool
 }
 
 // The first variable without a context row, or how many there are.
-pub fn first_unassigned(asg: [u16; 4], rows: usize, n: usize) -> usize
+pub(crate) fn first_unassigned(asg: [u16; 4], rows: usize, n: usize) -> usize
     ensures { λ v. ⌜ Ends (assignedBy rows asg) n v ⌝ }
 {
     let mut v: usize = 0;

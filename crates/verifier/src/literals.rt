@@ -94,7 +94,7 @@ fn concluded<'a>(
 }
 
 // The first literal that is not concluded, or how many there are.
-pub fn first_open<'a>(
+pub(crate) fn first_open<'a>(
     kinds: &'a [u8; 16],
     lefts: &'a [u16; 16],
     rights: &'a [u16; 16],

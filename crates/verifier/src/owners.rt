@@ -5,7 +5,7 @@ ghost use Prim.Native.Nat.{_≤_};
 ghost use Rattle.verifier.specs.Tables.{ownerWords, addedWords};
 
 // Whether an owner is 0, or the number of an unequal literal.
-pub fn owner_there(signs: &[u8; 16], literals: usize, owner: u64) -> bool
+pub(crate) fn owner_there(signs: &[u8; 16], literals: usize, owner: u64) -> bool
     requires { ⌜ literals ≤ 16 ⌝ }
     ensures { λ b. ⌜ b ≡ ownerWords (now (signs .entry)) literals owner ⌝ }
 {
@@ -23,7 +23,7 @@ pub fn owner_there(signs: &[u8; 16], literals: usize, owner: u64) -> bool
 }
 
 // Whether the owner is an unequal literal, and its instances are l and r.
-pub fn added<'a>(
+pub(crate) fn added<'a>(
     signs: &'a [u8; 16],
     ls: &'a [u16; 16],
     rs: &'a [u16; 16],

@@ -9,14 +9,14 @@ ghost use Rattle.meaning.specs.Values.{numberAt};
 ghost use Rattle.meaning.specs.Checking.{numberBelow, sideOf, citedBy};
 ghost use Rattle.meaning.specs.GroundColumns.{ownerOf, leftRef, rightRef, sidesOf};
 
-pub fn wide(x: u16) -> usize
+pub(crate) fn wide(x: u16) -> usize
     ensures { λ r. ⌜ r ≡ x ⌝ }
 {
     x as usize
 }
 
 // The number of a pattern row's instance.
-pub fn instance_number(numbers: &[u16; 319], rows: usize, p: u16) -> usize
+pub(crate) fn instance_number(numbers: &[u16; 319], rows: usize, p: u16) -> usize
     requires { ⌜ rows ≤ 319 ⌝ }
     ensures { λ r. ⌜ r ≡ numberAt (now (numbers .entry)) (rows + p) ⌝ }
 {
@@ -50,7 +50,7 @@ fn side(numbers: &[u16; 319], rows: usize, patterns: usize, mark: u64, row: usiz
     none
 }
 
-pub fn left_side(numbers: &[u16; 319], rows: usize, patterns: usize, word: u64) -> usize
+pub(crate) fn left_side(numbers: &[u16; 319], rows: usize, patterns: usize, word: u64) -> usize
     requires { ⌜ rows + patterns ≤ 319 ⌝ }
     ensures { λ r. ⌜ r ≡ sideOf (now (numbers .entry)) rows patterns (leftRef word) ⌝ }
 {
@@ -58,7 +58,7 @@ pub fn left_side(numbers: &[u16; 319], rows: usize, patterns: usize, word: u64) 
     side(numbers, rows, patterns, (word / 1099511627776) % 256, row)
 }
 
-pub fn right_side(numbers: &[u16; 319], rows: usize, patterns: usize, word: u64) -> usize
+pub(crate) fn right_side(numbers: &[u16; 319], rows: usize, patterns: usize, word: u64) -> usize
     requires { ⌜ rows + patterns ≤ 319 ⌝ }
     ensures { λ r. ⌜ r ≡ sideOf (now (numbers .entry)) rows patterns (rightRef word) ⌝ }
 {
@@ -78,7 +78,7 @@ fn usable(word: u64, owner: u64) -> bool
 }
 
 // Whether step x, of the first so many, may be used by an owner and has the sides l and r.
-pub fn cited<'a>(
+pub(crate) fn cited<'a>(
     words: &'a [u64],
     limit: usize,
     owner: u64,

@@ -14,14 +14,14 @@ ghost use Rattle.meaning.specs.GroundColumns.{numbersIn, stepsFrom, sidesOf, pa
 ghost use Rattle.numbering.specs.Keys.{Keyed};
 ghost use Rattle.verifier.specs.Tables.{argsFrom};
 
-pub fn wide8(x: u8) -> usize
+fn wide8(x: u8) -> usize
     ensures { λ r. ⌜ r ≡ x ⌝ }
 {
     x as usize
 }
 
 // Whether pair x, of so many, is l and r.
-pub fn paired<'a>(
+fn paired<'a>(
     lefts: &'a [u16; 510],
     rights: &'a [u16; 510],
     count: usize,
@@ -387,14 +387,14 @@ fn least(a: usize, b: usize) -> usize
 }
 
 // How many steps the columns hold: as many as the shortest has places.
-pub fn shortest<'a>(firsts: &'a [u64], seconds: &'a [u64], thirds: &'a [u64]) -> usize
+pub(crate) fn shortest<'a>(firsts: &'a [u64], seconds: &'a [u64], thirds: &'a [u64]) -> usize
     ensures { λ r. ⌜ r ≡ length (stepsFrom (now (firsts .entry)) (now (seconds .entry)) (now (thirds .entry))) ⌝ }
 {
     least(firsts.len(), least(seconds.len(), thirds.len()))
 }
 
 // The first step that does not follow from the steps before it, or how many there are.
-pub fn first_bad<'a>(
+pub(crate) fn first_bad<'a>(
     symbols: &'a [u16; 319],
     counts: &'a [u8; 319],
     args: &'a [u16; 1276],
