@@ -1,12 +1,38 @@
 // Prints the first breach of the text on standard input, none, or the refusal.
-fn main() {
-    let mut input = [0u8; 16385];
-    let n = io::read_full(0, &mut input);
-    let line = printing::find_prints(&input[..n]);
+use channels::input::Got;
+use channels::input::input_space;
+use channels::input::take_input;
+use channels::output::Sent;
+use channels::output::put;
+use channels::telling::FAILED;
+use channels::telling::report;
+use channels::telling::tell;
+ghost use Rattle.meaning.specs.Text.{narrow};
+ghost use Rattle.meaning.specs.Replies.{FindPrints};
+ghost use Rattle.channels.specs.Sending.{Delivers};
+
+// Hands over what has to be printed for an input.
+fn hand<'a>(input: &'a [u8], line: &'a [u8]) -> Sent
+    requires { ⌜ FindPrints narrow (now input) (now line) ⌝ }
+    ensures { λ s. ⌜ Delivers (FindPrints narrow (now (input .entry))) s ⌝ }
+{
+    put(line)
+}
+
+fn answer(input: &[u8]) -> Sent
+    ensures { λ s. ⌜ Delivers (FindPrints narrow (now (input .entry))) s ⌝ }
+{
+    let line = printing::find_prints(input);
     let bytes = line.bytes;
     let len = line.len;
-    if len <= 32 {
-        let m = io::count(len as isize, &bytes);
-        io::write_all(1, &bytes[..m]);
+    hand(input, &bytes[..len])
+}
+
+fn main() {
+    let mut input = input_space();
+    let got = take_input(&mut input);
+    match got {
+        Got::Bytes(n) => report(answer(&input[..n])),
+        Got::Failed => tell(FAILED),
     }
 }

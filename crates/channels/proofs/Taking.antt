@@ -1,0 +1,28 @@
+-- Bytes read into a space, part by part.
+--     takes-bytes, takes-failed    the ways out
+--     takes-same                   an answer that is handed on
+--     takes-within                 what was read stands in the space
+-- Assumes nothing.
+use mathlib.Core.List.{List}
+use mathlib.Core.Path.{_≡_, sym, subst}
+use Prim.Native.Nat.{ℕ, _≤_}
+use native.Mathlib.Omega.{arith}
+use borrow.Author.Needs.{needs}
+use lib.ListN.{length}
+use Rattle.channels.specs.declared.input.Got.{Got}
+use Rattle.channels.specs.declared.input.Got.the-variants.{Bytes, Failed}
+use Rattle.channels.specs.Taking.{Takes}
+
+pub takes-bytes : (n : ℕ) (space : List ℕ) → n ≤ length space → Takes (Bytes n) space
+takes-bytes n space h = record { within = λ k e. let z : k ≡ n = cc in omega arith }
+
+pub takes-failed : (space : List ℕ) → Takes Failed space
+takes-failed space = record { within = λ k e. absurd (let z : _≡_ {A = ℕ} 0 1 = cc in omega arith) }
+
+pub takes-same : (q r : Got) (space : List ℕ) → r ≡ q → Takes q space → Takes r space
+takes-same q r space e t = subst (λ (g : Got). Takes g space) (sym e) t
+
+pub takes-within : (r : Got) (space : List ℕ) (n : ℕ) → Takes r space → r ≡ Bytes n → n ≤ length space
+takes-within r space n t e = t .within n e
+
+pub ruleset mine = (needs, takes-bytes, takes-failed, takes-same)

@@ -1,0 +1,110 @@
+-- `channels::fill` meets its contract. The invariant: the space is as long as before, and what was read stands in it. A turn leaves less space, or fewer tries.
+-- Assumes nothing.
+use mathlib.Core.Path.{_≡_}
+use Prim.Native.Nat.{_+_, _-_, _≤_}
+use native.Mathlib.Omega.{arith}
+use lib.ListN.{length}
+use Rattle.channels.proofs.Taking.{takes-bytes, mine}
+use Rattle.channels.proofs.input.fill.Statement.{statement}
+use Rattle.channels.proofs.input.fill.Tie as tie
+
+abbrev Inv-loop : tie.InvT-loop
+Inv-loop space₀ done₀ tries₀ space done tries = (length space ≡ length space₀) × (done ≤ length space)
+
+abbrev μ-loop : tie.MeasureT-loop
+μ-loop space₀ done₀ tries₀ space done tries = (length space - done) + tries
+
+loop-holds : tie.Need-loop-holds Inv-loop μ-loop
+loop-holds c = search mine
+
+sub-read-once : tie.Need-sub-read-once Inv-loop μ-loop
+sub-read-once c = search mine
+
+part-read-once-start : tie.Need-part-read-once-start Inv-loop μ-loop
+part-read-once-start c = search mine
+
+part-read-once-end : tie.Need-part-read-once-end Inv-loop μ-loop
+part-read-once-end c = search mine
+
+read-once-requires : tie.Need-read-once-requires Inv-loop μ-loop
+read-once-requires c κs = search mine
+
+enum-known-moved : tie.Need-enum-known-moved Inv-loop μ-loop
+enum-known-moved c = search mine
+
+add-done : tie.Need-add-done Inv-loop μ-loop
+add-done c = record { fits = omega (arith, c .before .before .before .before .before .read-once .ensures .few _ (c .before .moved .given .1)) }
+
+loop-less : tie.Need-loop-less Inv-loop μ-loop
+loop-less c = omega (arith, c .before .before .before .before .before .read-once .ensures .some _ (c .before .moved .given .1), c .before .before .before .before .before .read-once .ensures .few _ (c .before .moved .given .1))
+
+loop-again : tie.Need-loop-again Inv-loop μ-loop
+loop-again c = (search mine, omega (arith, c .before .before .before .before .before .read-once .ensures .few _ (c .before .moved .given .1)))
+
+enum-told : tie.Need-enum-told Inv-loop μ-loop
+enum-told c = search mine
+
+same-length : tie.Need-same-length Inv-loop μ-loop
+same-length c = search mine
+
+returns : tie.Need-returns Inv-loop μ-loop
+returns c = takes-bytes _ _ (omega arith)
+
+enum-told-2 : tie.Need-enum-told-2 Inv-loop μ-loop
+enum-told-2 c = search mine
+
+same-length-2 : tie.Need-same-length-2 Inv-loop μ-loop
+same-length-2 c = search mine
+
+returns-2 : tie.Need-returns-2 Inv-loop μ-loop
+returns-2 c = search mine
+
+sub-tries : tie.Need-sub-tries Inv-loop μ-loop
+sub-tries c = search mine
+
+loop-less-2 : tie.Need-loop-less-2 Inv-loop μ-loop
+loop-less-2 c = search mine
+
+loop-again-2 : tie.Need-loop-again-2 Inv-loop μ-loop
+loop-again-2 c = search mine
+
+same-length-3 : tie.Need-same-length-3 Inv-loop μ-loop
+same-length-3 c = search mine
+
+returns-3 : tie.Need-returns-3 Inv-loop μ-loop
+returns-3 c = search mine
+
+same-length-4 : tie.Need-same-length-4 Inv-loop μ-loop
+same-length-4 c = search mine
+
+returns-4 : tie.Need-returns-4 Inv-loop μ-loop
+returns-4 c = search mine
+
+pub fill-spec : {M : Type 1} → statement M
+fill-spec =
+    tie.close
+    (tie.spec
+    Inv-loop
+    μ-loop
+    loop-holds
+    sub-read-once
+    part-read-once-start
+    part-read-once-end
+    read-once-requires
+    enum-known-moved
+    add-done
+    loop-less
+    loop-again
+    enum-told
+    same-length
+    returns
+    enum-told-2
+    same-length-2
+    returns-2
+    sub-tries
+    loop-less-2
+    loop-again-2
+    same-length-3
+    returns-3
+    same-length-4
+    returns-4)

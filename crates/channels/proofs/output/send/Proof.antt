@@ -1,0 +1,93 @@
+-- `channels::send` meets its contract. The invariant: no more was taken than there is. A turn leaves fewer bytes, or fewer tries.
+-- Assumes nothing.
+use Prim.Native.Nat.{_+_, _-_, _≤_}
+use native.Mathlib.Omega.{arith}
+use lib.ListN.{length}
+use Rattle.channels.proofs.Sending.{mine}
+use Rattle.channels.proofs.output.send.Statement.{statement}
+use Rattle.channels.proofs.output.send.Tie as tie
+
+abbrev Inv-loop : tie.InvT-loop
+Inv-loop fd bytes done₀ tries₀ done tries = done ≤ length bytes
+
+abbrev μ-loop : tie.MeasureT-loop
+μ-loop fd bytes done₀ tries₀ done tries = (length bytes - done) + tries
+
+loop-holds : tie.Need-loop-holds Inv-loop μ-loop
+loop-holds c = search mine
+
+sub-write-once : tie.Need-sub-write-once Inv-loop μ-loop
+sub-write-once c = search mine
+
+part-write-once-start : tie.Need-part-write-once-start Inv-loop μ-loop
+part-write-once-start c = search mine
+
+part-write-once-end : tie.Need-part-write-once-end Inv-loop μ-loop
+part-write-once-end c = search mine
+
+write-once-requires : tie.Need-write-once-requires Inv-loop μ-loop
+write-once-requires c κs = search mine
+
+enum-known-moved : tie.Need-enum-known-moved Inv-loop μ-loop
+enum-known-moved c = search mine
+
+add-done : tie.Need-add-done Inv-loop μ-loop
+add-done c = record { fits = omega (arith, c .before .before .before .write-once .ensures .few _ (c .before .moved .given .1)) }
+
+loop-less : tie.Need-loop-less Inv-loop μ-loop
+loop-less c = omega (arith, c .before .before .before .write-once .ensures .some _ (c .before .moved .given .1), c .before .before .before .write-once .ensures .few _ (c .before .moved .given .1))
+
+loop-again : tie.Need-loop-again Inv-loop μ-loop
+loop-again c = omega (arith, c .before .before .before .write-once .ensures .few _ (c .before .moved .given .1))
+
+enum-told : tie.Need-enum-told Inv-loop μ-loop
+enum-told c = search mine
+
+returns : tie.Need-returns Inv-loop μ-loop
+returns c = search mine
+
+sub-tries : tie.Need-sub-tries Inv-loop μ-loop
+sub-tries c = search mine
+
+loop-less-2 : tie.Need-loop-less-2 Inv-loop μ-loop
+loop-less-2 c = search mine
+
+loop-again-2 : tie.Need-loop-again-2 Inv-loop μ-loop
+loop-again-2 c = search mine
+
+enum-told-2 : tie.Need-enum-told-2 Inv-loop μ-loop
+enum-told-2 c = search mine
+
+returns-2 : tie.Need-returns-2 Inv-loop μ-loop
+returns-2 c = search mine
+
+returns-3 : tie.Need-returns-3 Inv-loop μ-loop
+returns-3 c = search mine
+
+returns-4 : tie.Need-returns-4 Inv-loop μ-loop
+returns-4 c = search mine
+
+pub send-spec : {M : Type 1} → statement M
+send-spec =
+    tie.close
+    (tie.spec
+    Inv-loop
+    μ-loop
+    loop-holds
+    sub-write-once
+    part-write-once-start
+    part-write-once-end
+    write-once-requires
+    enum-known-moved
+    add-done
+    loop-less
+    loop-again
+    enum-told
+    returns
+    sub-tries
+    loop-less-2
+    loop-again-2
+    enum-told-2
+    returns-2
+    returns-3
+    returns-4)

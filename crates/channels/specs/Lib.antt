@@ -1,0 +1,5 @@
+-- The root of the definitions.
+pub mod Moves
+pub mod Taking
+pub mod Sending
+pub mod Telling

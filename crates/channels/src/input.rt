@@ -1,0 +1,82 @@
+// Standard input.
+use crate::moves::Move;
+use crate::moves::read_once;
+ghost use mathlib.Core.Path.{_≡_};
+ghost use Prim.Native.Nat.{suc, _<_};
+ghost use lib.ListN.{length};
+ghost use Rattle.meaning.specs.Replies.{inputLimit};
+ghost use Rattle.channels.specs.Taking.{Takes};
+
+// One byte more than a program takes, so that an input that is too long is known.
+pub const INPUT_SPACE: usize = 16385;
+
+// What an input without a limit is taken in by.
+pub const PIECE_SPACE: usize = 8192;
+
+// How many bytes were read into a space, fewer than it has where the input ended; or the read failed, which was said on standard error.
+pub enum Got {
+    Bytes(usize),
+    Failed,
+}
+
+pub fn input_space() -> [u8; INPUT_SPACE]
+    ensures long { λ r. ⌜ length r ≡ suc inputLimit ⌝ }
+{
+    [0; INPUT_SPACE]
+}
+
+pub fn piece_space() -> [u8; PIECE_SPACE]
+    ensures some { λ r. ⌜ 0 < length r ⌝ }
+{
+    [0; PIECE_SPACE]
+}
+
+// Reads until the space is full or the input ends. A read that a signal interrupted is tried again; nothing says that this ends, so the tries
+// are counted down from a number that no run uses up.
+fn fill(space: &mut [u8]) -> Got
+    ensures { λ r. ⌜ Takes r (now (space .exit)) ⌝ }
+{
+    let mut done = 0;
+    let mut tries = usize::MAX;
+    while done < space.len() {
+        let moved = read_once(libc::STDIN_FILENO, &mut space[done..]);
+        match moved {
+            Move::Bytes(n) => done += n,
+            Move::End => return Got::Bytes(done),
+            Move::Again => {
+                if tries == 0 {
+                    return Got::Failed;
+                }
+                tries -= 1;
+            }
+            _ => return Got::Failed,
+        }
+    }
+    Got::Bytes(done)
+}
+
+// Says a failure on standard error.
+fn said(got: Got) -> Got
+    ensures { λ r. ⌜ r ≡ got ⌝ }
+{
+    if let Got::Failed = got {
+        os::fail(b"standard input");
+    }
+    got
+}
+
+// Reads the input, as far as there is space.
+pub fn take_input(space: &mut [u8; INPUT_SPACE]) -> Got
+    ensures takes { λ r. ⌜ Takes r (now (space .exit)) ⌝ }
+{
+    let got = fill(space);
+    said(got)
+}
+
+// Reads what comes next of the input, as far as there is space.
+pub fn take_piece(space: &mut [u8; PIECE_SPACE]) -> Got
+    ensures takes { λ r. ⌜ Takes r (now (space .exit)) ⌝ }
+{
+    let got = fill(space);
+    said(got)
+}
