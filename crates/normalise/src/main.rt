@@ -1,19 +1,49 @@
 // Prints the normal text of the text on standard input, or the refusal.
-fn main() {
-    let mut input = [0u8; 16385];
-    let n = io::read_full(0, &mut input);
-    let mut space = [0u8; 8192];
-    let parts = printing::normalise_prints(&input[..n], &mut space);
-    let text = parts.text;
-    if text <= 8192 {
-        let m = io::count(text as isize, &space);
-        io::write_all(1, &space[..m]);
+use channels::input::Got;
+use channels::input::input_space;
+use channels::input::take_input;
+use channels::output::Sent;
+use channels::output::both;
+use channels::output::is_whole;
+use channels::output::put;
+use channels::telling::FAILED;
+use channels::telling::report;
+use channels::telling::tell;
+ghost use mathlib.Core.List.{_++_};
+ghost use Rattle.meaning.specs.Text.{narrow};
+ghost use Rattle.meaning.specs.Replies.{NormalisePrints};
+ghost use Rattle.channels.specs.Sending.{Delivers};
+
+// Hands over what has to be printed for an input, in two parts.
+fn hand<'a>(input: &'a [u8], text: &'a [u8], line: &'a [u8]) -> Sent
+    requires { ⌜ NormalisePrints narrow (now input) (now text ++ now line) ⌝ }
+    ensures { λ s. ⌜ Delivers (NormalisePrints narrow (now (input .entry))) s ⌝ }
+{
+    let first = put(text);
+    if !is_whole(first) {
+        return first;
     }
+    let then = put(line);
+    both(first, then)
+}
+
+fn answer(input: &[u8]) -> Sent
+    ensures { λ s. ⌜ Delivers (NormalisePrints narrow (now (input .entry))) s ⌝ }
+{
+    let mut space = printing::normal_space();
+    let parts = printing::normalise_prints(input, &mut space);
+    let text = parts.text;
     let line = parts.line;
     let bytes = line.bytes;
     let len = line.len;
-    if len <= 32 {
-        let m = io::count(len as isize, &bytes);
-        io::write_all(1, &bytes[..m]);
+    hand(input, &space[..text], &bytes[..len])
+}
+
+fn main() {
+    let mut input = input_space();
+    let got = take_input(&mut input);
+    match got {
+        Got::Bytes(n) => report(answer(&input[..n])),
+        Got::Failed => tell(FAILED),
     }
 }

@@ -1,6 +1,7 @@
 -- The ways out of the function that gives the normaliser program's output; and that what it gives is what the program has to print.
 --     output-over, output-wrote, output-refused   input that is too long; a normal text; a refusal
 --     prints-normal-one                           two answers to one input and one lent space are equal, the space afterwards included
+--     output-fits                                 the bytes of a normal text stand in the space
 --     output-prints                               with space for any normal text, the parts joined are the program's output
 -- Assumes nothing.
 use mathlib.Core.List.{List, [], _++_, append-nil}
@@ -8,7 +9,7 @@ use mathlib.Core.Path.{_≡_, refl, sym, ap, ap₂, subst, _∙_}
 use Prim.Native.Nat.{ℕ, zero, suc, _+_, _-_, _≤_, _<_}
 use native.Mathlib.Omega.{arith}
 use borrow.Author.Needs.{needs}
-use lib.ListN.{length, take, drop, replicate, List·getD-eq-default}
+use lib.ListN.{length, take, drop, replicate, length-append, List·getD-eq-default}
 use lib.Seq.{take-at}
 use Rattle.meaning.specs.Context.{Context, equations}
 use Rattle.meaning.specs.Equality.{Representatives, reflexive}
@@ -34,7 +35,7 @@ use Rattle.normaliser.specs.declared.Written.{Written}
 use Rattle.normaliser.specs.declared.Written.the-variants.{Wrote, Refused}
 use Rattle.normaliser.specs.declared.printed.Line.{Line}
 use Rattle.normaliser.proofs.Printing.{line-one}
-use Rattle.printing.specs.Claims.{PartsOf, Answers, over, within, PrintsNormal}
+use Rattle.printing.specs.Claims.{normalLimit, PartsOf, Answers, over, within, PrintsNormal}
 use Rattle.printing.specs.declared.Parts.{Parts}
 
 pub output-over : (input space : List ℕ) (line : Line) → 16384 < length input → Prints (printed (refused (refusal 11 0))) (line .bytes) (line .len)
@@ -94,7 +95,7 @@ closed-own c f = go (length (c .rows)) refl
     go zero e = List·getD-eq-default (close (c .rows) (equations c)) 0 (omega (arith, closing-promise c f .long))
     go (suc n) e = first-own c (repOf c) (closing-represents c f) (omega arith)
 
-settled-few : (input : List ℕ) (s : M.Read) → read narrow input ≡ taken s → (r : Normalised) → Settled (s .ledger .context) r → (text : List ℕ) → r ≡ normal text → length text ≤ 7898
+settled-few : (input : List ℕ) (s : M.Read) → read narrow input ≡ taken s → (r : Normalised) → Settled (s .ledger .context) r → (text : List ℕ) → r ≡ normal text → length text ≤ normalLimit
 settled-few input s e r (contradicts n x) text q = absurd (let z : _≡_ {A = ℕ} 0 1 = cc in omega arith)
 settled-few input s e r (settles x u w) text q =
     let c : Context = s .ledger .context in
@@ -104,14 +105,26 @@ settled-few input s e r (settles x u w) text q =
     let g : text ≡ contextText (normalOf (repOf c) c) = sym v ∙ w .2 ∙ ap contextText k in
     rw g (normal-bytes (repOf c) c (read-kept narrow input s e .contextFits) (closed-own c f))
 
-normal-few : (input text : List ℕ) → Normalises narrow input (normal text) → length text ≤ 7898
+normal-few : (input text : List ℕ) → Normalises narrow input (normal text) → length text ≤ normalLimit
 normal-few input text w = go (read narrow input) refl w
   where
-    go : (y : M.Reading) → read narrow input ≡ y → NormalisesTo y (normal text) → length text ≤ 7898
+    go : (y : M.Reading) → read narrow input ≡ y → NormalisesTo y (normal text) → length text ≤ normalLimit
     go (faulty f) e q = absurd (let z : _≡_ {A = ℕ} 0 1 = cc in omega arith)
     go (taken s) e q = settled-few input s e (normal text) q text refl
 
-pub output-prints : (input space after : List ℕ) (r : Parts) → 7898 ≤ length space → PrintsNormal input space r after
+pub output-fits : (input space after : List ℕ) (r : Parts) → PrintsNormal input space r after → r .text ≤ length after
+output-fits input space after r p = go (p .answer) after (p .answers) (p .parts)
+  where
+    left : (x : Normalised) (a : MW) (u : List ℕ) → Leaves space x a u → PartsOf a r → r .text ≤ length u
+    left x a u (fits text k) q = omega (arith, length-append text (drop (length text) space))
+    left x a u (short text k) q = omega arith
+    left x a u (stays y) q = omega arith
+
+    go : (a : MW) (u : List ℕ) → Answers input space a u → PartsOf a r → r .text ≤ length u
+    go a u (over h) q = omega arith
+    go a u (within h b v w) q = left (w .result) a u (w .leaves) q
+
+pub output-prints : (input space after : List ℕ) (r : Parts) → normalLimit ≤ length space → PrintsNormal input space r after
     → NormalisePrints narrow input (take (r .text) after ++ take (r .line .len) (r .line .bytes))
 unfolding printedNormal
 output-prints input space after r room p = go (p .answer) after (p .answers) (p .parts)

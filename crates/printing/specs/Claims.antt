@@ -1,5 +1,6 @@
 -- What the functions claim that give a program's output.
 --     PrintsFound              the finder program's line for an input, and zeros after it
+--     normalLimit              the most bytes that a normal text has
 --     PartsOf, PrintsNormal    what the normaliser program prints: bytes of the lent space, or a line; and the space afterwards
 -- Assumes nothing.
 use mathlib.Core.List.{List, []}
@@ -16,6 +17,9 @@ pub record PrintsFound (input : List ℕ) (r : Line) : Type 0 where
   pub line : List ℕ
   pub prints : FindPrints narrow input line
   pub front : Prints line (r .bytes) (r .len)
+
+abbrev pub normalLimit : ℕ
+normalLimit = 7898
 
 abbrev pub PartsOf : Written → Parts → Type 0
 PartsOf (wrote n) r = (r .text ≡ n) × Prints [] (r .line .bytes) (r .line .len)

@@ -8,12 +8,16 @@ use normaliser::printed::none_line;
 use normaliser::printed::refusal_line;
 ghost use mathlib.Core.Path.{_≡_};
 ghost use mathlib.Core.List.{[]};
+ghost use lib.ListN.{length};
 ghost use Rattle.meaning.specs.Replies.{refused, refusal, printed};
 ghost use Rattle.normaliser.specs.Prints.{Prints};
-ghost use Rattle.printing.specs.Claims.{PrintsFound, PrintsNormal};
+ghost use Rattle.printing.specs.Claims.{normalLimit, PrintsFound, PrintsNormal};
 
 // The most bytes that a program takes.
 const MOST_INPUT: usize = 16384;
+
+// The most bytes that a normal text has.
+pub const NORMAL_SPACE: usize = 7898;
 
 // What is printed: so many bytes of the lent space, and then the line.
 pub struct Parts {
@@ -63,6 +67,13 @@ fn no_line() -> Line
         bytes: [0; 32],
         len: 0,
     }
+}
+
+// Space for any normal text.
+pub fn normal_space() -> [u8; NORMAL_SPACE]
+    ensures long { λ r. ⌜ length r ≡ normalLimit ⌝ }
+{
+    [0; NORMAL_SPACE]
 }
 
 // What the normaliser program prints.
