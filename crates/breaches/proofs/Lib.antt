@@ -1,2 +1,3 @@
 -- The root of the laws.
-pub mod Shrinking
+pub mod Handing
+pub mod Going

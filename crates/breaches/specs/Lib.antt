@@ -1,2 +1,2 @@
 -- The root of the definitions.
-pub mod Shrinks
+pub mod Giving

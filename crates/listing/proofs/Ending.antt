@@ -1,6 +1,6 @@
 -- Each piece with room for a line leaves less of the list: what a program that writes piece by piece ends by.
 --     restBy, leftOf    what is still to be listed at a state, and how many lines are still to be written
---     fill-falls        with room for 13 bytes fewer lines are left afterwards, unless the list was done
+--     runs-falls        with room for 13 bytes fewer lines are left afterwards, unless the list was done
 -- Assumes nothing.
 use mathlib.Core.List.{List, [], _++_}
 use mathlib.Core.Path.{_≡_, refl, sym, ap, subst}
@@ -21,8 +21,7 @@ use Rattle.finder.specs.Claims.{said, asked}
 use Rattle.listing.specs.declared.Stage.{Stage}
 use Rattle.listing.specs.declared.Stage.the-variants.{Start, After, Done}
 use Rattle.listing.specs.declared.State.{State}
-use Rattle.listing.specs.declared.Filled.{Filled}
-use Rattle.listing.specs.Filling.{comesBy, Comes, Runs, stops, waits, writes, Fills}
+use Rattle.listing.specs.Filling.{comesBy, Comes, Runs, stops, waits, writes}
 use Rattle.listing.proofs.Filling.{runs-one}
 use Rattle.listing.proofs.Pieces.{onward, placed-front, Shorter, none-left, fewer, Advance, run-on, line-short}
 
@@ -87,13 +86,9 @@ module _ (c : ContextColumns) (t : List ℕ) (k : ClauseColumns) where
           goes-one 0 (onward c t k) q m (restBy (said c) t (asked k) (u .stage) (u .places)) g (comes-goes u q v) in
           omega (arith, comes-left s r w, comes-left u q v, ap length e)
 
-  runs-falls : (n : ℕ) (s u : State) (bytes : List ℕ) → 13 ≤ n → (s .stage ≡ Done → ⊥) → Runs c t k n s bytes u → leftOf c t k u < leftOf c t k s
+  pub runs-falls : (n : ℕ) (s u : State) (bytes : List ℕ) → 13 ≤ n → (s .stage ≡ Done → ⊥) → Runs c t k n s bytes u → leftOf c t k u < leftOf c t k s
   unfolding leftOf
   runs-falls n s u bytes h g (stops m z w) =
       omega (arith, left-going (z .stage) (length (restBy (said c) t (asked k) (z .stage) (z .places))) g, left-done Done (length (restBy (said c) t (asked k) Done (replicate 4 255))) refl)
   runs-falls n s u bytes h g (waits m z r w l) = falls-from m z z [] r h w (waits m z r w l)
   runs-falls n s u bytes h g (writes m z r w l b v y) = falls-from m z v (printed (replyOf r) ++ b) r h w (writes m z r w l b v y)
-
-  pub fill-falls : (s : State) (lent : List ℕ) (r : Filled) (after : List ℕ) → 13 ≤ length lent → (s .stage ≡ Done → ⊥) → Fills c t k s lent r after
-      → leftOf c t k (r .next) < leftOf c t k s
-  fill-falls s lent r after h g f = runs-falls (length lent) s (r .next) (f .bytes) h g (f .runs)

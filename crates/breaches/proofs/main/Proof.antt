@@ -1,50 +1,54 @@
--- `breaches::main` hands over what `open` gives, with a memo of zeros.
+-- `breaches::main` answers the bytes that were read.
 -- Assumes nothing.
-use Rattle.breaches.proofs.Shrinking.{mine}
+use Rattle.breaches.proofs.Going.{mine}
 use Rattle.breaches.proofs.main.Statement.{statement}
 use Rattle.breaches.proofs.main.Tie as tie
 
-slice-aggregate-read-full : tie.Need-slice-aggregate-read-full
-slice-aggregate-read-full c = search mine
+input-space-requires : tie.Need-input-space-requires
+input-space-requires c κs = search mine
 
-read-full-requires : tie.Need-read-full-requires
-read-full-requires c κs = search mine
+take-input-requires : tie.Need-take-input-requires
+take-input-requires c κs = search mine
+
+enum-known-got : tie.Need-enum-known-got
+enum-known-got c = search mine
 
 array-share-prefix-input : tie.Need-array-share-prefix-input
 array-share-prefix-input c = search mine
 
-slice-aggregate-open : tie.Need-slice-aggregate-open
-slice-aggregate-open c = search mine
+slice-aggregate-answer : tie.Need-slice-aggregate-answer
+slice-aggregate-answer c = search mine
 
-open-requires : tie.Need-open-requires
-open-requires c κs = search mine
+answer-requires : tie.Need-answer-requires
+answer-requires c κs = search mine
 
-slice-aggregate-put : tie.Need-slice-aggregate-put
-slice-aggregate-put c = search mine
+report-requires : tie.Need-report-requires
+report-requires c κs = search mine
 
-put-requires : tie.Need-put-requires
-put-requires c κs = search mine
+enum-told : tie.Need-enum-told
+enum-told c = search mine
 
-unknown-requires : tie.Need-unknown-requires
-unknown-requires c κs = search mine
-
-list-requires : tie.Need-list-requires
-list-requires c κs = search mine
+tell-requires : tie.Need-tell-requires
+tell-requires c κs = search mine
 
 returns : tie.Need-returns
 returns c = search mine
+
+returns-2 : tie.Need-returns-2
+returns-2 c = search mine
 
 pub main-spec : {M : Type 1} → statement M
 main-spec =
     tie.close
     (tie.spec
-    slice-aggregate-read-full
-    read-full-requires
+    input-space-requires
+    take-input-requires
+    enum-known-got
     array-share-prefix-input
-    slice-aggregate-open
-    open-requires
-    slice-aggregate-put
-    put-requires
-    unknown-requires
-    list-requires
-    returns)
+    slice-aggregate-answer
+    answer-requires
+    report-requires
+    enum-told
+    tell-requires
+    returns
+    returns-2)
