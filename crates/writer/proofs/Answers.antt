@@ -3,6 +3,8 @@
 --     writes-finds      where there is room, the reply is the finder's
 --     writes-one        two answers to one text have one outcome and one assignment
 --     writes-bare       and are equal, with equal columns, where there is no breach
+--     refused-positive  the finder's refusals are from 1 on
+--     writes-fit        no answer is that to columns that are unfit
 --     writes-many       for a breach the columns hold as many steps as are told
 --     writes-accepted   the checker accepts what is written for a breach
 -- Assumes nothing.
@@ -14,11 +16,13 @@ use lib.ListN.{length, take}
 use lib.Seq.{length-take-le}
 use Rattle.meaning.specs.Context.{Context}
 use Rattle.meaning.specs.Equality.{Consistent}
-use Rattle.meaning.specs.Rules.{Clause}
-use Rattle.meaning.specs.Text.{narrow, Reading}
+use Rattle.meaning.specs.Rules.{Clause, found, nothing}
+use Rattle.meaning.specs.Text.{narrow, Refusal, Reading, faulty, taken, read}
 use Rattle.meaning.specs.Replies.{Reply, breach, none, refused, replyOf, placesOf, Judged, empty, clashes, answers, Replies, RepliesTo}
 use Rattle.meaning.specs.Grounds.{accepted}
 use Rattle.meaning.proofs.Answered.{replies-one}
+use Rattle.meaning.proofs.Bounds.{read-bounded}
+use Rattle.search.specs.declared.Kind.the-variants as S
 use Rattle.verifier.specs.declared.Answer.the-variants as Verdict
 use Rattle.verifier.specs.declared.Conclusions.{Conclusions}
 use Rattle.verifier.proofs.Running.{steps-shortest}
@@ -33,6 +37,7 @@ use Rattle.finder.specs.declared.Outcome.the-variants as O
 use Rattle.finder.proofs.Preparing.{found-never}
 use Rattle.finder.proofs.Judging.{told-one}
 use Rattle.writer.specs.Claims.{most, space, Answers, refuses, lacks, replies, Bare, stepsIn, ShownFor, Leaves, Writes}
+use Rattle.writer.specs.Drawing.{outcomeBy}
 use Rattle.writer.specs.declared.Grounds.{Grounds}
 
 -- ---- the reply
@@ -52,6 +57,19 @@ answers-replies : (text : List ℕ) (room : ℕ) (x : Reply) → most ≤ room �
 answers-replies text room x l (refuses f p) = p
 answers-replies text room x l (lacks r q h) = absurd (omega arith)
 answers-replies text room x l (replies r q h) = q
+
+judged-positive : (c : Context) (k : Clause) (u : Reply) (f : Refusal) → Judged c k u → u ≡ refused f → 1 ≤ f .number
+judged-positive c k u f (empty l) e = let z : 8 ≡ f .number = cc in omega arith
+judged-positive c k u f (clashes l n h) e = let z : 9 ≡ f .number = cc in omega arith
+judged-positive c k u f (answers l h (found a) w) e = absurd (let z : _≡_ {A = ℕ} 0 1 = cc in omega arith)
+judged-positive c k u f (answers l h nothing w) e = absurd (let z : _≡_ {A = ℕ} 0 1 = cc in omega arith)
+
+pub refused-positive : (text : List ℕ) (f : Refusal) → Replies narrow text (refused f) → 1 ≤ f .number
+refused-positive text f = go (read narrow text) refl
+  where
+    go : (g : Reading) → read narrow text ≡ g → RepliesTo g (refused f) → 1 ≤ f .number
+    go (faulty g) e q = let z : f ≡ g = cc in subst (λ (x : Refusal). 1 ≤ x .number) (sym z) (read-bounded narrow text g e .numberLow)
+    go (taken s) e q = judged-positive (s .ledger .context) (s .clause) (refused f) f q refl
 
 -- a breach is told where one is replied
 breach-told : (o : Outcome) (a : List ℕ) → toldBy o ≡ toldOf (breach a) → (n : ℕ) × (o ≡ O.Breach n)
@@ -81,6 +99,15 @@ module _ (text firsts seconds thirds : List ℕ) where
 
     pub writes-one : (r .outcome ≡ q .outcome) × (r .places ≡ q .places)
     writes-one = (outcome-one, v .places ∙ ap placesOf reply-one ∙ sym (w .places))
+
+  pub writes-fit : (r : Grounds) (x y z : List ℕ) → Writes text firsts seconds thirds r x y z → r .outcome ≡ outcomeBy S.Unfit → ⊥
+  writes-fit r x y z w e = go (w .reply) (w .answers) (ap toldBy (sym e) ∙ w .told)
+    where
+      go : (u : Reply) → Answers text (space firsts seconds thirds) u → toldBy (outcomeBy S.Unfit) ≡ toldOf u → ⊥
+      go u (refuses f p) q = let n : 0 ≡ f .number = cc in omega (arith, refused-positive text f p)
+      go u (lacks d p h) q = let n : _≡_ {A = ℕ} 0 10 = cc in omega arith
+      go u (replies (found a) p h) q = let n : _≡_ {A = ℕ} 10 8 = cc in omega arith
+      go u (replies nothing p h) q = let n : _≡_ {A = ℕ} 10 9 = cc in omega arith
 
   bare : (r : Grounds) (x y z : List ℕ) → ((n : ℕ) → r .outcome ≡ O.Breach n → ⊥) → (u : Reply) → toldBy (r .outcome) ≡ toldOf u
       → Leaves firsts seconds thirds r x y z text u

@@ -1,7 +1,9 @@
 -- The search's answer, with the grounds for a breach.
---     hit-..           a breach of so many variables, or none
+--     outcome-..       what is told for the search's answer
 --     seek-broken      what is told for a breach breaks the rule
 --     seek-clear, seek-drawn    no breach, and a breach with its grounds
+--     seek-unfit       well-formed columns are never unfit
+--     unfit-not-none   and if they were, that would not be told as none
 -- Assumes nothing.
 use mathlib.Core.List.{List, [], _∷_}
 use mathlib.Core.Path.{_≡_, refl, sym, ap, _∙_}
@@ -11,7 +13,7 @@ use borrow.Author.Needs.{needs}
 use lib.ListN.{length}
 use Rattle.meaning.specs.Equality.{Promise}
 use Rattle.meaning.specs.Rules.{Found, found, nothing}
-use Rattle.meaning.specs.Replies.{breach, placesOf}
+use Rattle.meaning.specs.Replies.{breach, none, placesOf}
 use Rattle.ledger.specs.declared.ContextColumns.{ContextColumns}
 use Rattle.ledger.specs.declared.ClauseColumns.{ClauseColumns}
 use Rattle.search.specs.Hunting.{answerOf}
@@ -19,22 +21,25 @@ use Rattle.search.specs.Finding.{foundBy}
 use Rattle.search.specs.declared.Kind.{Kind}
 use Rattle.search.specs.declared.Kind.the-variants as S
 use Rattle.search.specs.declared.Reply.{Reply as Searched}
-use Rattle.finder.specs.Claims.{said, asked, toldBy, Asks}
+use Rattle.finder.specs.Claims.{said, asked, toldBy, toldOf, Asks}
+use Rattle.finder.specs.declared.Outcome.{Outcome}
 use Rattle.finder.specs.declared.Outcome.the-variants as O
-use Rattle.writer.specs.Drawing.{bareWith, Broken, Draws, hitBy, Seekable, Sought}
+use Rattle.writer.specs.Drawing.{bareWith, Broken, Draws, outcomeBy, Seekable, Sought}
 use Rattle.writer.specs.declared.Grounds.{Grounds}
-use Rattle.writer.specs.declared.Hit.{Hit}
-use Rattle.writer.specs.declared.Hit.the-variants as H
 use Rattle.writer.proofs.Placing.{placed-chosen, placed-holds}
 
-pub hit-breach : (kind : Kind) (n : ℕ) → kind ≡ S.Breach n → H.Breach n ≡ hitBy kind
-hit-breach kind n e = rw e
+pub outcome-breach : (kind : Kind) (n : ℕ) → kind ≡ S.Breach n → O.Breach n ≡ outcomeBy kind
+outcome-breach kind n e = rw e
 
-pub hit-clear : (kind : Kind) → kind ≡ S.Clear → H.Clear ≡ hitBy kind
-hit-clear kind e = rw e
+pub outcome-clear : (kind : Kind) → kind ≡ S.Clear → O.Clear ≡ outcomeBy kind
+outcome-clear kind e = rw e
 
-pub hit-unfit : (kind : Kind) → kind ≡ S.Unfit → H.Clear ≡ hitBy kind
-hit-unfit kind e = rw e
+pub outcome-unfit : (kind : Kind) → kind ≡ S.Unfit → O.Refused (record { number = 0; line = 0; offset = 0 }) ≡ outcomeBy kind
+outcome-unfit kind e = rw e
+
+-- a failure is not told as none
+pub unfit-not-none : toldBy (outcomeBy S.Unfit) ≡ toldOf none → ⊥
+unfit-not-none e = let z : _≡_ {A = ℕ} 10 9 = cc in omega arith
 
 module _ (c : ContextColumns) (table : List ℕ) (k : ClauseColumns) (w : Seekable c table k) where
   pub seek-asks : Asks c k
@@ -43,25 +48,22 @@ module _ (c : ContextColumns) (table : List ℕ) (k : ClauseColumns) (w : Seekab
   pub seek-closed : Promise (said c) 255 table
   seek-closed = w .closed
 
-  module _ (x : Searched) (search-is : x ≡ answerOf (foundBy (said c) table (asked k))) (hit : Hit) (hit-is : hit ≡ hitBy (x .kind)) where
-    hit-found : (q : Found) → foundBy (said c) table (asked k) ≡ q → (hit ≡ hitBy (answerOf q .kind)) × (x .places ≡ answerOf q .places)
-    hit-found q e = (
-      hit-is ∙ ap (λ (y : Searched). hitBy (y .kind)) (search-is ∙ ap answerOf e),
-      ap (λ (y : Searched). y .places) (search-is ∙ ap answerOf e),
-    )
+  module _ (x : Searched) (search-is : x ≡ answerOf (foundBy (said c) table (asked k))) where
+    answer-found : (q : Found) → foundBy (said c) table (asked k) ≡ q → (x .kind ≡ answerOf q .kind) × (x .places ≡ answerOf q .places)
+    answer-found q e = (ap (λ (y : Searched). y .kind) (search-is ∙ ap answerOf e), ap (λ (y : Searched). y .places) (search-is ∙ ap answerOf e))
 
     -- a breach that is told was found, and stands in the places
-    told-found : (n : ℕ) → hit ≡ H.Breach n
+    told-found : (n : ℕ) → x .kind ≡ S.Breach n
         → (a : List ℕ) × (foundBy (said c) table (asked k) ≡ found a) × (n ≡ length a) × (x .places ≡ placesOf (breach a))
     unfolding answerOf placesOf
     told-found n e = go (foundBy (said c) table (asked k)) refl
       where
         go : (q : Found) → foundBy (said c) table (asked k) ≡ q
             → (a : List ℕ) × (foundBy (said c) table (asked k) ≡ found a) × (n ≡ length a) × (x .places ≡ placesOf (breach a))
-        go (found a) f = let z : H.Breach n ≡ H.Breach (length a) = sym e ∙ hit-found (found a) f .0 in (a, f, cc, hit-found (found a) f .1)
-        go nothing f = absurd (let z : H.Breach n ≡ H.Clear = sym e ∙ hit-found nothing f .0 in let o : _≡_ {A = ℕ} 0 1 = cc in omega arith)
+        go (found a) f = let z : S.Breach n ≡ S.Breach (length a) = sym e ∙ answer-found (found a) f .0 in (a, f, cc, answer-found (found a) f .1)
+        go nothing f = absurd (let z : S.Breach n ≡ S.Clear = sym e ∙ answer-found nothing f .0 in let o : _≡_ {A = ℕ} 0 1 = cc in omega arith)
 
-    pub seek-broken : (n : ℕ) → hit ≡ H.Breach n → Broken c k (x .places)
+    pub seek-broken : (n : ℕ) → x .kind ≡ S.Breach n → Broken c k (x .places)
     unfolding placesOf
     seek-broken n e =
         let t : (a : List ℕ) × (foundBy (said c) table (asked k) ≡ found a) × (n ≡ length a) × (x .places ≡ placesOf (breach a)) = told-found n e in
@@ -73,22 +75,31 @@ module _ (c : ContextColumns) (table : List ℕ) (k : ClauseColumns) (w : Seekab
         }
 
     module _ (firsts seconds thirds : List ℕ) where
-      pub seek-clear : hit ≡ H.Clear → (y : Grounds) → y ≡ bareWith O.Clear (x .places) → Sought c table k firsts seconds thirds y firsts seconds thirds
+      pub seek-clear : x .kind ≡ S.Clear → (o : Outcome) → o ≡ outcomeBy (x .kind) → (y : Grounds) → y ≡ bareWith o (x .places)
+          → Sought c table k firsts seconds thirds y firsts seconds thirds
       unfolding bareWith placesOf answerOf
-      seek-clear e y q = rw q (go (foundBy (said c) table (asked k)) refl)
+      seek-clear e o told y q = rw q (go (foundBy (said c) table (asked k)) refl)
         where
-          go : (f : Found) → foundBy (said c) table (asked k) ≡ f → Sought c table k firsts seconds thirds (bareWith O.Clear (x .places)) firsts seconds thirds
-          go (found a) f = absurd (let z : H.Clear ≡ H.Breach (length a) = sym e ∙ hit-found (found a) f .0 in let o : _≡_ {A = ℕ} 0 1 = cc in omega arith)
+          go : (f : Found) → foundBy (said c) table (asked k) ≡ f → Sought c table k firsts seconds thirds (bareWith o (x .places)) firsts seconds thirds
+          go (found a) f = absurd (let z : S.Clear ≡ S.Breach (length a) = sym e ∙ answer-found (found a) f .0 in let i : _≡_ {A = ℕ} 0 1 = cc in omega arith)
           go nothing f =
               record {
                 what = nothing;
                 finds = f;
-                told = refl;
-                places = hit-found nothing f .1;
+                told = ap toldBy (told ∙ ap outcomeBy (answer-found nothing f .0));
+                places = answer-found nothing f .1;
                 leaves = record { steps = refl; literals = refl; conclusions = refl; first = refl; second = refl; third = refl };
               }
 
-      pub seek-drawn : (n : ℕ) → hit ≡ H.Breach n → {y : Grounds} {firsts′ seconds′ thirds′ : List ℕ}
+      pub seek-unfit : x .kind ≡ S.Unfit → {y : Grounds} → Sought c table k firsts seconds thirds y firsts seconds thirds
+      unfolding answerOf
+      seek-unfit e = absurd (go (foundBy (said c) table (asked k)) refl)
+        where
+          go : (f : Found) → foundBy (said c) table (asked k) ≡ f → ⊥
+          go (found a) f = let z : S.Unfit ≡ S.Breach (length a) = sym e ∙ answer-found (found a) f .0 in let i : _≡_ {A = ℕ} 0 1 = cc in omega arith
+          go nothing f = let z : S.Unfit ≡ S.Clear = sym e ∙ answer-found nothing f .0 in let i : _≡_ {A = ℕ} 0 1 = cc in omega arith
+
+      pub seek-drawn : (n : ℕ) → x .kind ≡ S.Breach n → {y : Grounds} {firsts′ seconds′ thirds′ : List ℕ}
           → Draws c k n (x .places) firsts seconds thirds y firsts′ seconds′ thirds′
           → Sought c table k firsts seconds thirds y firsts′ seconds′ thirds′
       seek-drawn n e d =
@@ -101,4 +112,4 @@ module _ (c : ContextColumns) (table : List ℕ) (k : ClauseColumns) (w : Seekab
             leaves = d .shown;
           }
 
-pub ruleset mine = (needs, hit-breach, hit-clear, hit-unfit, seek-asks, seek-closed, seek-broken, seek-clear, seek-drawn)
+pub ruleset mine = (needs, outcome-breach, outcome-clear, outcome-unfit, seek-asks, seek-closed, seek-broken, seek-clear, seek-unfit, seek-drawn)

@@ -14,7 +14,7 @@
 --     Drawable, Drew                what the turns of all literals ask, and what they leave
 --     endsWith                      a conclusion for each literal
 --     Draws                         the answer for a breach, and the columns afterwards
---     hitBy                         a breach of so many variables, or none
+--     outcomeBy                     what is told for the search's answer; for a failure refusal 0, which is no text's
 --     Seekable, Sought              what the search asks, and the answer for what was found
 -- Assumes nothing.
 use mathlib.Core.Bool.{false}
@@ -52,8 +52,6 @@ use Rattle.batches.specs.Drawing.{Drawn, blankDrawn, drawOne, drawnTo}
 use Rattle.batches.specs.Sending.{Small}
 use Rattle.emitting.specs.Emitting.{Kinded, Holds}
 use Rattle.writer.specs.Claims.{most, space, noConclusions, Bare, Shown}
-use Rattle.writer.specs.declared.Hit.{Hit}
-use Rattle.writer.specs.declared.Hit.the-variants as H
 use Rattle.writer.specs.declared.Grounds.{Grounds}
 
 unfoldable pub bareWith : Outcome → List ℕ → Grounds
@@ -162,10 +160,10 @@ pub record Draws (c : ContextColumns) (k : ClauseColumns) (n : ℕ) (a firsts se
 
 -- ---- the search
 
-abbrev pub hitBy : Kind → Hit
-hitBy (S.Breach n) = H.Breach n
-hitBy S.Clear = H.Clear
-hitBy S.Unfit = H.Clear
+abbrev pub outcomeBy : Kind → Outcome
+outcomeBy (S.Breach n) = O.Breach n
+outcomeBy S.Clear = O.Clear
+outcomeBy S.Unfit = O.Refused (record { number = 0; line = 0; offset = 0 })
 
 -- well-formed columns, and their closing, by which what is found is a breach
 pub record Seekable (c : ContextColumns) (table : List ℕ) (k : ClauseColumns) : Type 0 where

@@ -30,7 +30,7 @@ ghost use Rattle.grounding.specs.Rounds.{blank};
 ghost use Rattle.grounding.specs.Concluding.{ownerOf};
 ghost use Rattle.concluding.specs.Saying.{Says};
 ghost use Rattle.writer.specs.Claims.{most, space, noConclusions, Writes};
-ghost use Rattle.writer.specs.Drawing.{bareWith, refusedWith, Broken, Tabled, Fits, Apart, settledOf, saidFor, saidOf, Shares, Sayable, Turned, Drawable, Drew, endsWith, Draws, hitBy, Seekable, Sought};
+ghost use Rattle.writer.specs.Drawing.{bareWith, refusedWith, Broken, Tabled, Fits, Apart, settledOf, saidFor, saidOf, Shares, Sayable, Turned, Drawable, Drew, endsWith, Draws, outcomeBy, Seekable, Sought};
 
 // There has to be room for so many steps.
 const MOST: usize = 278528;
@@ -42,12 +42,6 @@ pub struct Grounds {
     pub steps: usize,
     pub literals: usize,
     pub conclusions: Conclusions,
-}
-
-// A breach of so many variables, or none.
-enum Hit {
-    Breach(u8),
-    Clear,
 }
 
 // Zeros in every place.
@@ -397,14 +391,21 @@ fn draw(
     }
 }
 
-// Well-formed columns are never told unfit.
-fn hit_of(kind: Kind) -> Hit
-    ensures { λ r. ⌜ r ≡ hitBy kind ⌝ }
+// Well-formed columns are never told unfit; refusal 0 is no text's.
+fn outcome_of(kind: Kind) -> Outcome
+    ensures { λ r. ⌜ r ≡ outcomeBy kind ⌝ }
 {
     match kind {
-        Kind::Breach(n) => Hit::Breach(n),
-        Kind::Clear => Hit::Clear,
-        Kind::Unfit => Hit::Clear,
+        Kind::Breach(n) => Outcome::Breach(n),
+        Kind::Clear => Outcome::Clear,
+        Kind::Unfit => {
+            let x = Refusal {
+                number: 0,
+                line: 0,
+                offset: 0,
+            };
+            Outcome::Refused(x)
+        }
     }
 }
 
@@ -424,11 +425,12 @@ fn seek(
     let r = hunt(c, table, k);
     let kind = r.kind;
     let places = r.places;
-    let hit = hit_of(kind);
-    let Hit::Breach(n) = hit else {
-        return bare(Outcome::Clear, places);
-    };
-    draw(c, k, n, places, firsts, seconds, thirds)
+    let outcome = outcome_of(kind);
+    match kind {
+        Kind::Breach(n) => draw(c, k, n, places, firsts, seconds, thirds),
+        Kind::Clear => bare(outcome, places),
+        Kind::Unfit => bare(outcome, places),
+    }
 }
 
 // The finder's reply to a text, or refusal 10 where there is room for too few steps; after a breach, its grounds in the first places of the columns.

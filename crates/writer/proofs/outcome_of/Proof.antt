@@ -1,8 +1,8 @@
--- `writer::hit_of` meets its contract. By cases.
+-- `writer::outcome_of` meets its contract. By cases.
 -- Assumes nothing.
 use Rattle.writer.proofs.Seeking.{mine}
-use Rattle.writer.proofs.hit_of.Statement.{statement}
-use Rattle.writer.proofs.hit_of.Tie as tie
+use Rattle.writer.proofs.outcome_of.Statement.{statement}
+use Rattle.writer.proofs.outcome_of.Tie as tie
 
 enum-known-kind : tie.Need-enum-known-kind
 enum-known-kind c = search mine
@@ -22,6 +22,6 @@ returns-2 c = search mine
 returns-3 : tie.Need-returns-3
 returns-3 c = search mine
 
-pub hit-of-spec : {M : Type 1} → statement M
-hit-of-spec =
+pub outcome-of-spec : {M : Type 1} → statement M
+outcome-of-spec =
     tie.close (tie.spec enum-known-kind enum-told enum-told-2 returns returns-2 returns-3)
