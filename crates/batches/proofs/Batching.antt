@@ -21,10 +21,11 @@ use Rattle.grounding.specs.Classes.{upto}
 use Rattle.grounding.proofs.Drafts.{Follow, length-draft}
 use Rattle.batches.specs.Marking.{kept, markedFor}
 use Rattle.batches.specs.Sending.{newOf, Out, stepsIn, forgotten, written, sendOne, sent, resent, batch, Small}
-use Rattle.batches.specs.Drawing.{CitedLater}
+use Rattle.batches.specs.Drawing.{CitedLater, ownedBy}
 use Rattle.batches.proofs.Marks.{draft-at, zeros-at, CitedBy, kindAt, citesAt, for-self, for-closed, for-why}
 use Rattle.batches.proofs.Forgetting.{forgotten-long, forgotten-shared, forgotten-own}
-use Rattle.batches.proofs.Sends.{positive, new-at, Shown, cites-new, Closed, Sending, sending-start}
+use Rattle.batches.proofs.Owned.{passing}
+use Rattle.batches.proofs.Sends.{positive, new-at, Shown, named, cites-new, Closed, Sending, sending-start}
 use Rattle.batches.proofs.Words.{Emitting, emitted-all}
 
 -- ---- how many are written
@@ -85,6 +86,8 @@ module _ (c : Context) (k : Clause) (a : List ℕ) (shared steps : List Step) (s
     pub most : o′ .next ≤ o .next + length steps
     pub cites : {owner : ℕ} {t u : Term} → Cites c k a steps owner s t u → Cites c k a (stepsIn o′) owner (newOf (o′ .news) s) t u
     pub used : (q : ℕ) → o .next ≤ q → q < o′ .next → (newOf (o′ .news) s ≡ suc q) ⊎ CitedLater (stepsIn o′) q
+    pub owned : (x : ℕ) → ownedBy x (stepsIn o′) + passing (named steps x (forgotten (length shared) (o .news))) (length steps)
+        ≤ ownedBy x (stepsIn o) + passing (named steps x (o′ .news)) (length steps)
     pub rest₁ : drop (o′ .next) (o′ .firsts) ≡ drop (o′ .next) (o .firsts)
     pub rest₂ : drop (o′ .next) (o′ .seconds) ≡ drop (o′ .next) (o .seconds)
     pub rest₃ : drop (o′ .next) (o′ .thirds) ≡ drop (o′ .next) (o .thirds)
@@ -263,6 +266,7 @@ module _ (c : Context) (k : Clause) (a : List ℕ) (fewRows : length (c .rows) �
           most = omega (arith, e .1 .sends .most, e .1 .counted, room .counted, all);
           cites = step-cites (e .0 .news) (stepsIn (e .0)) (e .1 .sends);
           used = λ q h l. used-after (e .0 .news) (stepsIn (e .0)) (e .1 .sends) q (omega (arith, room .counted)) (omega (arith, e .1 .counted));
+          owned = λ x. rw (all, many) (e .1 .sends .owned x);
           rest₁ = e .1 .rest₁;
           rest₂ = e .1 .rest₂;
           rest₃ = e .1 .rest₃;

@@ -7,6 +7,7 @@
 --     breach-drawn                after all of them
 --     breach-accepted             what is written then is accepted
 --     breach-few, breach-used     it is at most 16 times 7,020 steps, and each is cited
+--     breach-each                 each owner has at most 7,050 of them: the shared ones are written once, and two more for each equal literal
 --     breach-written              the words that are written hold them
 --     breach-rest, breach-long    every later place is as before, and the columns keep their lengths
 -- Assumes nothing.
@@ -38,7 +39,9 @@ use Rattle.grounding.proofs.Drafts.{Under}
 use Rattle.grounding.proofs.Passes.{Keys}
 use Rattle.grounding.proofs.Literal.{Closed, closed-shared, shared-few, SaidFor, said-literal, hold-at}
 use Rattle.batches.specs.Sending.{stepsIn, Small}
-use Rattle.batches.specs.Drawing.{Drawn, blankDrawn, drawnTo, drawn, endWritten, Used}
+use Rattle.batches.specs.Drawing.{Drawn, blankDrawn, drawnTo, drawn, endWritten, Used, ownedBy}
+use Rattle.batches.proofs.Owned.{passing-most}
+use Rattle.batches.proofs.Owners.{Shared}
 use Rattle.batches.proofs.Draws.{Drawing, drawing-start, drawing-next, drawing-accepted}
 
 pub breach-chosen : (c : Context) (k : Clause) (a : List ℕ) → Breach c (rangeOf c) k a
@@ -152,6 +155,10 @@ module _ (c : Context) (k : Clause) (a : List ℕ) (formed : Formed c k)
 
       pub breach-few : end .out .next ≤ 112320
       breach-few = omega (arith, w .most, fewLiterals)
+
+      pub breach-each : (o : ℕ) → ownedBy o (stepsIn (end .out)) ≤ 7050
+      breach-each zero = omega (arith, w .shares, passing-most (Shared (end .out .news)) (countIn (final .cells)), breach-shared-few, fewLiterals)
+      breach-each (suc i) = omega (arith, w .owns i)
 
       pub breach-used : (p : ℕ) → p < end .out .next → Used (stepsIn (end .out)) (endWritten end) (length (k .literals)) p
       breach-used = w .used

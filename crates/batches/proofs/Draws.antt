@@ -3,7 +3,6 @@
 --     drawing-start           before the first
 --     drawing-next            after one literal more, where its column holds numbers of 16 bits
 --     drawing-accepted        the verdict on all of them
---     owner-most              an owner is at most the literal's number
 -- Assumes nothing.
 use mathlib.Core.Bool.{Bool, true, false}
 use mathlib.Core.List.{List}
@@ -29,14 +28,18 @@ use Rattle.grounding.proofs.Builds.{all}
 use Rattle.grounding.proofs.Passes.{Keys}
 use Rattle.grounding.proofs.Concludes.{conclusion}
 use Rattle.grounding.proofs.Literal.{Closed, SaidFor, said-literal, said-shared, hold-at}
-use Rattle.batches.specs.Sending.{newOf, Out, stepsIn, batch, Small}
-use Rattle.batches.specs.Drawing.{Drawn, drawSaid, drawOne, blankDrawn, endWritten, CitedLater, Used, by-step, by-end}
+use Rattle.batches.specs.Sending.{newOf, Out, stepsIn, forgotten, batch, Small}
+use Rattle.batches.specs.Drawing.{Drawn, drawSaid, drawOne, blankDrawn, endWritten, CitedLater, Used, by-step, by-end, ownedBy}
+use Rattle.batches.proofs.Owned.{passing}
+use Rattle.batches.proofs.Sends.{named}
+use Rattle.batches.proofs.Owners.{Shared, owns-most, owns-other, shares-more}
 use Rattle.batches.proofs.Batching.{Knows, knows-start, Sent, batch-sent}
 
-pub owner-most : (j : ℕ) (l : Literal) → ownerOf j l ≤ suc j
+-- another literal's owner
+owner-other : (j : ℕ) (l : Literal) (i : ℕ) → (i ≡ j → ⊥) → suc i ≡ ownerOf j l → ⊥
 unfolding ownerOf
-owner-most j (equal p q) = omega arith
-owner-most j (unequal p q) = omega arith
+owner-other j (equal p q) i d e = omega arith
+owner-other j (unequal p q) i d e = d (omega arith)
 
 -- ---- more steps
 
@@ -98,6 +101,9 @@ module _ (c : Context) (k : Clause) (a : List ℕ) where
       pub follow : Follow c k a (stepsIn (d .out))
       pub counted : length (stepsIn (d .out)) ≡ d .out .next
       pub most : d .out .next ≤ j * 7020
+      pub shares : ownedBy 0 (stepsIn (d .out)) ≤ passing (Shared (d .out .news)) (countIn (closed .cells)) + j * 2
+      pub owns : (i : ℕ) → ownedBy (suc i) (stepsIn (d .out)) ≤ 7020
+      pub later : (i : ℕ) → j ≤ i → ownedBy (suc i) (stepsIn (d .out)) ≡ 0
       pub ends : length (d .ends) ≡ 16
       pub differences : length (d .differences) ≡ 16
       pub concluded : (i : ℕ) → i < j → Concludes c k a (stepsIn (d .out)) (suc i) (endWritten d i) (literalAt (k .literals) i)
@@ -129,7 +135,7 @@ module _ (c : Context) (k : Clause) (a : List ℕ) where
     diffs = numbered ns (differences c)
 
     pub drawing-start : Drawing closed firsts seconds thirds 0 (blankDrawn (closed .cells) firsts seconds thirds)
-    unfolding blankDrawn stepsIn stepsFrom
+    unfolding blankDrawn stepsIn stepsFrom ownedBy
     drawing-start =
         record {
           under = under-self from (closed .cells);
@@ -137,6 +143,9 @@ module _ (c : Context) (k : Clause) (a : List ℕ) where
           follow = λ i h. absurd (omega arith);
           counted = refl;
           most = omega arith;
+          shares = omega arith;
+          owns = λ i. omega arith;
+          later = λ i h. refl;
           ends = length-replicate {A = ℕ} 16 0;
           differences = length-replicate {A = ℕ} 16 0;
           concluded = λ i h. absurd (omega arith);
@@ -192,6 +201,33 @@ module _ (c : Context) (k : Clause) (a : List ℕ) where
               second = omega (arith, w .most, says .most, w .long₂);
               third = omega (arith, w .most, says .most, w .long₃);
             })
+
+        -- ---- how many steps each owner has
+
+        owned : (x : ℕ) → ownedBy x (stepsIn out) + passing (named (draft rows from (ownerOf j l) (s .cells)) x (forgotten from (d .out .news))) (length (draft rows from (ownerOf j l) (s .cells)))
+            ≤ ownedBy x (stepsIn (d .out)) + passing (named (draft rows from (ownerOf j l) (s .cells)) x (out .news)) (length (draft rows from (ownerOf j l) (s .cells)))
+        owned x = rw (length-draft rows 0 0 (closed .cells)) at (sends .owned x)
+
+        others : (i : ℕ) → (i ≡ j → ⊥) → ownedBy (suc i) (stepsIn out) ≤ ownedBy (suc i) (stepsIn (d .out))
+        others i e =
+            owns-other rows from (ownerOf j l) (s .cells) (says .past) (d .out .news) (out .news) (w .knows .size) (stepsIn (d .out)) (stepsIn out) owned (suc i) (λ z. omega arith)
+            (owner-other j l i e)
+
+        owns : (i : ℕ) → ownedBy (suc i) (stepsIn out) ≤ 7020
+        owns i = go (eqb i j) refl
+          where
+            go : (b : Bool) → eqb i j ≡ b → ownedBy (suc i) (stepsIn out) ≤ 7020
+            go true e =
+                rw (eqb-true i j e)
+                (omega (arith, owns-most rows from (ownerOf j l) (s .cells) (says .past) (d .out .news) (out .news) (w .knows .size) (stepsIn (d .out)) (stepsIn out) owned (suc j), says .most, w .later j (omega arith)))
+            go false e = omega (arith, others i (eqb-false i j e), w .owns i)
+
+        later : (i : ℕ) → suc j ≤ i → ownedBy (suc i) (stepsIn out) ≡ 0
+        later i b = omega (arith, others i (λ e. omega arith), w .later i (omega arith))
+
+        shares : ownedBy 0 (stepsIn out) ≤ passing (Shared (out .news)) from + suc j * 2
+        shares =
+            omega (arith, shares-more rows from (ownerOf j l) (s .cells) (says .past) (d .out .news) (out .news) (w .knows .size) (stepsIn (d .out)) (stepsIn out) owned 2 (says .brief), w .shares)
 
         -- the conclusions of earlier literals stay, and this one's is new
         end-before : (i : ℕ) → i < j → endWritten after i ≡ endWritten d i
@@ -255,6 +291,9 @@ module _ (c : Context) (k : Clause) (a : List ℕ) where
               follow = sends .follow;
               counted = sends .counted;
               most = omega (arith, sends .most, length-draft rows from (ownerOf j l) (s .cells), says .most, w .most);
+              shares = shares;
+              owns = owns;
+              later = later;
               ends = length-set (d .ends) j (newOf (out .news) (s .first)) ∙ w .ends;
               differences = length-set (d .differences) j (s .difference) ∙ w .differences;
               concluded = concluded;

@@ -1,19 +1,20 @@
 -- Steps of a draft that are sent, one after the other, behind steps that were sent before.
 --     Shown                      a step that was sent has the owner and the sides of one of a draft
 --     renamed                    a step with new numbers for what it cites
+--     named                      whether a step of a draft has an owner and a new number
 --     Closed                     what a step that stays cites stays
 --     Sending                    after so many steps of the draft: the steps sent follow, and show what the draft's do; why each was sent
 --     sending-start, sending-skip, sending-send   before the first; a step that is not sent, and one that is
 --     cites-new                  what a draft's step cites has a new number
 -- Assumes nothing.
-use mathlib.Core.Bool.{Bool, true, false}
+use mathlib.Core.Bool.{Bool, true, false, not, _&&_}
 use mathlib.Core.List.{List, [], _∷_, _++_, map}
 use mathlib.Core.Path.{_≡_, refl, ap, sym, _∙_, subst}
 use mathlib.Core.Logic.{_⊎_, inl, inr, ⊎-elim}
 use Prim.Native.Nat.{ℕ, zero, suc, _+_, _≤_, _<_}
 use native.Mathlib.Omega.{arith}
 use lib.Dec.{eqb, ltb}
-use borrow.Author.Tests.{eqb-true, eqb-false, ne-eqb, lt-ltb, le-ltb}
+use borrow.Author.Tests.{eqb-true, eqb-false, eq-eqb, ne-eqb, lt-ltb, le-ltb}
 use lib.ListN.{length, getD, set, take, length-set, length-take, List·getD-append, List·getD-map}
 use lib.Seq.{getD-take, getD-set-same, getD-set-other, getD-append-seam, take-length, take-append-le}
 use Rattle.meaning.specs.Context.{Term, Terms, Context, equations}
@@ -21,7 +22,10 @@ use Rattle.meaning.specs.Rules.{Clause}
 use Rattle.meaning.specs.Grounds.{Step, step₀, stepAt, numberIn, PairAt, Cites, CitesEach, each-stop, each-more, Derives, by-statement, by-reflexivity, by-symmetry, by-transitivity, by-congruence, by-addition, Follows}
 use Rattle.meaning.proofs.Lists.{length-snoc}
 use Rattle.grounding.proofs.Drafts.{Follow, follow-snoc}
+use Rattle.batches.specs.Marking.{kept}
 use Rattle.batches.specs.Sending.{newOf}
+use Rattle.batches.specs.Drawing.{ownedBy}
+use Rattle.batches.proofs.Owned.{owned-more, owned-same, passing, passing-true, passing-false, passing-alike, passing-pace}
 
 -- ---- new numbers
 
@@ -74,6 +78,37 @@ unfolding renamed
 shown-last steps f s =
     let e : stepAt (steps ++ (renamed f s ∷ [])) (length steps) ≡ renamed f s = getD-append-seam steps (renamed f s) [] step₀ in
     record { inside = omega (arith, length-snoc steps (renamed f s)); owner = rw e; left = rw e; right = rw e }
+
+-- step p of a draft, counted from 0
+unfoldable pub named : List Step → ℕ → List ℕ → ℕ → Bool
+named draft o news p = eqb (stepAt draft p .owner) o && kept news (suc p)
+
+named-kept : (draft : List Step) (o : ℕ) (news : List ℕ) (p : ℕ) → named draft o news p ≡ true → (stepAt draft p .owner ≡ o) × (getD news (suc p) 0 ≡ 0 → ⊥)
+unfolding named kept
+named-kept draft o news p e = go (eqb (stepAt draft p .owner) o) refl (eqb (getD news (suc p) 0) 0) refl
+  where
+    go : (b : Bool) → eqb (stepAt draft p .owner) o ≡ b → (d : Bool) → eqb (getD news (suc p) 0) 0 ≡ d
+        → (stepAt draft p .owner ≡ o) × (getD news (suc p) 0 ≡ 0 → ⊥)
+    go true q false f = (eqb-true (stepAt draft p .owner) o q, eqb-false (getD news (suc p) 0) 0 f)
+    go true q true f = absurd (let z : true ≡ false = sym e ∙ rw (q, f) in let y : _≡_ {A = ℕ} 0 1 = cc in omega arith)
+    go false q d f = absurd (let z : true ≡ false = sym e ∙ rw q in let y : _≡_ {A = ℕ} 0 1 = cc in omega arith)
+
+named-is : (draft : List Step) (o : ℕ) (news : List ℕ) (p : ℕ) → stepAt draft p .owner ≡ o → (getD news (suc p) 0 ≡ 0 → ⊥) → named draft o news p ≡ true
+unfolding named kept
+named-is draft o news p e d = rw (eq-eqb (stepAt draft p .owner) o e, ne-eqb (getD news (suc p) 0) 0 d)
+
+pub named-alike : (draft other : List Step) (o : ℕ) (news olds : List ℕ) (p : ℕ) → stepAt draft p ≡ stepAt other p → getD news (suc p) 0 ≡ getD olds (suc p) 0
+    → named draft o news p ≡ named other o olds p
+unfolding named kept
+named-alike draft other o news olds p d e = rw (d, e)
+
+-- no number, or another owner
+pub named-none : (draft : List Step) (o : ℕ) (news : List ℕ) (p : ℕ) → ((stepAt draft p .owner ≡ o) → (getD news (suc p) 0 ≡ 0 → ⊥) → ⊥) → named draft o news p ≡ false
+named-none draft o news p d = go (named draft o news p) refl
+  where
+    go : (b : Bool) → named draft o news p ≡ b → named draft o news p ≡ false
+    go true e = absurd (d (named-kept draft o news p e .0) (named-kept draft o news p e .1))
+    go false e = e
 
 module _ (c : Context) (k : Clause) (a : List ℕ) (draft : List Step) where
   -- new numbers are those of steps that show what the draft's do
@@ -175,11 +210,13 @@ module _ (c : Context) (k : Clause) (a : List ℕ) (draft : List Step) where
         pub old : (p q : ℕ) → getD news₀ (suc p) 0 ≡ suc q → getD news (suc p) 0 ≡ suc q
         pub only : (p q : ℕ) → getD news₀ (suc p) 0 ≡ 0 → getD news (suc p) 0 ≡ suc q → (p < m) × (keep (suc p) ≡ true)
         pub origin : (q : ℕ) → length steps₀ ≤ q → q < length steps → (p : ℕ) × (getD news₀ (suc p) 0 ≡ 0) × (getD news (suc p) 0 ≡ suc q)
+        pub owned : (o : ℕ) → ownedBy o steps + passing (named draft o news₀) m ≤ ownedBy o steps₀ + passing (named draft o news) m
         pub cites : (p q : ℕ) → getD news₀ (suc p) 0 ≡ 0 → getD news (suc p) 0 ≡ suc q → 2 < stepAt draft p .kind
             → (2 < stepAt steps q .kind)
             × ((j r v : ℕ) → numberIn (stepAt draft p) j ≡ suc r → r < p → getD news (suc r) 0 ≡ suc v → (numberIn (stepAt steps q) j ≡ suc v) × (v < q))
 
       pub sending-start : length news₀ ≡ 16385 → Follow c k a steps₀ → ShowsAll news₀ steps₀ → Sending 0 news₀ steps₀
+      unfolding passing
       sending-start size follow shows =
           record {
             size = size;
@@ -193,6 +230,7 @@ module _ (c : Context) (k : Clause) (a : List ℕ) (draft : List Step) where
             old = λ p q e. e;
             only = λ p q e f. absurd (omega (arith, e, f));
             origin = λ q h l. absurd (omega arith);
+            owned = λ o. omega arith;
             cites = λ p q e f l. absurd (omega (arith, e, f));
           }
 
@@ -210,9 +248,16 @@ module _ (c : Context) (k : Clause) (a : List ℕ) (draft : List Step) where
             old = w .old;
             only = λ p q e f. (omega (arith, w .only p q e f .0), w .only p q e f .1);
             origin = w .origin;
+            owned = λ o.
+                passing-pace (named draft o news) (named draft o news₀) m (ownedBy o steps) (ownedBy o steps₀) (w .owned o)
+                (λ e. named-is draft o news m (named-kept draft o news₀ m e .0) (keeps (named-kept draft o news₀ m e .1)));
             cites = w .cites;
           }
         where
+          -- a number stays
+          keeps : (getD news₀ (suc m) 0 ≡ 0 → ⊥) → getD news (suc m) 0 ≡ 0 → ⊥
+          keeps d = let q : (x : ℕ) × (getD news₀ (suc m) 0 ≡ suc x) = positive (getD news₀ (suc m) 0) d in λ z. omega (arith, w .old m (q .0) (q .1))
+
           done : (p : ℕ) → p < suc m → (b : Bool) → eqb p m ≡ b → keep (suc p) ≡ true → getD news (suc p) 0 ≡ 0 → ⊥
           done p h true e = subst (λ (i : ℕ). keep (suc i) ≡ true → getD news (suc i) 0 ≡ 0 → ⊥) (sym (eqb-true p m e)) skip
           done p h false e = w .done p (omega (arith, eqb-false p m e))
@@ -319,6 +364,25 @@ module _ (c : Context) (k : Clause) (a : List ℕ) (draft : List Step) where
                   λ j r v n s g. w .cites p q e (d .1) l .1 j r v n s (sym (other r (λ x. omega arith)) ∙ g),
                 )
 
+        owned : (o : ℕ) → ownedBy o more + passing (named draft o news₀) (suc m) ≤ ownedBy o steps₀ + passing (named draft o new) (suc m)
+        unfolding renamed
+        owned o = go (eqb (stepAt draft m .owner) o) refl
+          where
+            earlier : passing (named draft o new) m ≡ passing (named draft o news) m
+            earlier = passing-alike (named draft o new) (named draft o news) m (λ p l. named-alike draft draft o new news p refl (other p (λ e. omega arith)))
+
+            before : passing (named draft o news₀) (suc m) ≡ passing (named draft o news₀) m
+            before = passing-false (named draft o news₀) m (named-none draft o news₀ m (λ e d. d (sym (w .later m (omega arith)) ∙ none)))
+
+            go : (b : Bool) → eqb (stepAt draft m .owner) o ≡ b
+                → ownedBy o more + passing (named draft o news₀) (suc m) ≤ ownedBy o steps₀ + passing (named draft o new) (suc m)
+            go true e =
+                let q : stepAt draft m .owner ≡ o = eqb-true (stepAt draft m .owner) o e in
+                omega (arith, owned-more o steps z q, before, earlier, w .owned o, passing-true (named draft o new) m (named-is draft o new m q (λ f. omega (arith, here))))
+            go false e =
+                let d : stepAt draft m .owner ≡ o → ⊥ = eqb-false (stepAt draft m .owner) o e in
+                omega (arith, owned-same o steps z d, before, earlier, w .owned o, passing-false (named draft o new) m (named-none draft o new m (λ q f. d q)))
+
         pub sending-send : Follows c k a (take m draft) (stepAt draft m) → Sending (suc m) new more
         sending-send f =
             record {
@@ -333,5 +397,6 @@ module _ (c : Context) (k : Clause) (a : List ℕ) (draft : List Step) where
               old = old;
               only = only;
               origin = origin;
+              owned = owned;
               cites = cites;
             }

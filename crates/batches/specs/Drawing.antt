@@ -7,10 +7,13 @@
 --     endWritten       conclusion j, counted from 0
 --     CitedLater       a later step cites a step
 --     Used             a step is cited by a later one, or by a conclusion
+--     ownedBy          how many of some steps an owner has
 -- Assumes nothing.
-use mathlib.Core.List.{List}
+use mathlib.Core.Bool.{true, false}
+use mathlib.Core.List.{List, [], _∷_}
 use mathlib.Core.Path.{_≡_}
 use Prim.Native.Nat.{ℕ, suc, _<_}
+use lib.Dec.{eqb}
 use lib.ListN.{length, set, replicate}
 use Rattle.meaning.specs.Context.{Row}
 use Rattle.meaning.specs.Rules.{Literal}
@@ -78,3 +81,8 @@ pub record CitedLater (steps : List Step) (p : ℕ) : Type 0 where
 pub data Used (steps : List Step) (end : ℕ → Conclusion) (n p : ℕ) : Type 0 where
   by-step : CitedLater steps p → Used steps end n p
   by-end : (j : ℕ) → j < n → end j .first ≡ suc p → Used steps end n p
+
+-- owner 0 is shared, and owner n is literal n
+unfoldable pub ownedBy : ℕ → List Step → ℕ
+ownedBy o [] = 0
+ownedBy o (s ∷ ss) = elim (eqb (s .owner) o) [ true ↦ suc (ownedBy o ss) | false ↦ ownedBy o ss ]

@@ -1,6 +1,6 @@
 -- One literal of a breach by itself, from the closed classes of shared steps.
 --     said-literal                what `said` gives for a literal that holds is `SaidFor` it
---     SaidFor                     steps that all follow, and by which the literal's conclusion is shown; at most 7,020, the shared ones first and as they were
+--     SaidFor                     steps that all follow, and by which the literal's conclusion is shown; at most 7,020, the shared ones first and as they were, and at most two more of a literal that owns none
 --     said-shared                 the first of these steps are the shared ones
 --     Closed, closed-shared       closed classes of shared steps; the closing ends in such
 --     shared-few                  shared steps are at most 7,018
@@ -96,6 +96,7 @@ module _ (c : Context) (k : Clause) (a : List ℕ) (ns : List ℕ) (ready : Read
       pub concludes : Concludes c k a (draft rows from (ownerOf j l) (s .cells)) (suc j) (conclusion j s) l
       pub most : countIn (s .cells) ≤ 7020
       pub past : from ≤ countIn (s .cells)
+      pub brief : ownerOf j l ≡ 0 → countIn (s .cells) ≤ from + 2
       pub under : Under from (closed .cells) (s .cells)
 
     pub said-shared : (j : ℕ) (l : Literal) (s : Said) → SaidFor j l s → take from (draft rows from (ownerOf j l) (s .cells)) ≡ draft rows 0 0 (closed .cells)
@@ -135,6 +136,7 @@ module _ (c : Context) (k : Clause) (a : List ℕ) (ns : List ℕ) (ready : Read
             concludes = m .concludes;
             most = omega (arith, m .grown .more, again-count, shared-few);
             past = omega (arith, m .grown .least, again-count);
+            brief = λ e. omega (arith, m .grown .more, again-count);
             under = under-then (omega (arith, again-count)) again-under (m .grown .under);
           }
         where
@@ -159,6 +161,7 @@ module _ (c : Context) (k : Clause) (a : List ℕ) (ns : List ℕ) (ready : Read
             concludes = m .concludes;
             most = omega (arith, m .grown .more, bound);
             past = omega (arith, m .grown .least, r .least, u .outcome .least, again-count);
+            brief = λ e. absurd (omega (arith, e));
             under =
                 under-then (omega (arith, again-count)) again-under
                 (under-then (u .outcome .least) (u .outcome .under) (under-then (r .least) (r .under) (m .grown .under)));

@@ -25,13 +25,13 @@ use Rattle.grounding.specs.Draft.{countIn, stepOf, stepIn, draft}
 use Rattle.grounding.specs.Concluding.{ownerOf}
 use Rattle.grounding.proofs.Drafts.{Follow, length-draft}
 use Rattle.batches.specs.Sending.{stepsIn as stepsOf, Small}
-use Rattle.batches.specs.Drawing.{Drawn, drawn, endWritten, Used, by-step, by-end}
+use Rattle.batches.specs.Drawing.{Drawn, drawn, endWritten, Used, by-step, by-end, ownedBy}
 use Rattle.batches.proofs.Marks.{draft-at}
 use Rattle.batches.proofs.Draws.{Drawing}
-use Rattle.batches.proofs.Breaches.{breach-said, breach-start, breach-next, breach-accepted}
+use Rattle.batches.proofs.Breaches.{breach-said, breach-start, breach-next, breach-accepted, breach-each}
 use Rattle.emitting.specs.Emitting.{Kinded}
 use Rattle.finder.specs.declared.Outcome.{Outcome}
-use Rattle.writer.specs.Claims.{most, space, Shown}
+use Rattle.writer.specs.Claims.{most, mostEach, space, Shown}
 use Rattle.writer.specs.Drawing.{sizeOf, settledOf, saidFor, saidOf, turnsOf, endsWith}
 
 used-alike : (steps : List Step) (f g : ℕ → Conclusion) (n p : ℕ) → ((j : ℕ) → j < n → f j ≡ g j) → Used steps f n p → Used steps g n p
@@ -141,6 +141,11 @@ module _ (c : Context) (k : Clause) (a : List ℕ) (formed : Formed c k)
     few : end .out .next ≤ most
     few = omega (arith, done .most, fewLiterals)
 
+    few-each : (owner : ℕ) → ownedBy owner steps ≤ mostEach
+    unfolding turnsOf settledOf drawn
+    few-each owner =
+        omega (arith, breach-each c k a formed chosen hold t filled fewRows fewPatterns fewLiterals firsts seconds thirds room₁ room₂ room₃ done owner)
+
     pub drawn-shown : (o : Outcome)
         → Shown firsts seconds thirds (record { outcome = o; places = a; steps = end .out .next; literals = m; conclusions = d }) (end .out .firsts) (end .out .seconds) (end .out .thirds) c k
     unfolding stepsOf
@@ -148,6 +153,7 @@ module _ (c : Context) (k : Clause) (a : List ℕ) (formed : Formed c k)
         record {
           literals = refl;
           few = few;
+          fewEach = few-each;
           verified = verified;
           used = used;
           first = record { long = done .long₁; rest = done .rest₁ };

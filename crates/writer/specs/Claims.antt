@@ -1,11 +1,11 @@
 -- What the writer claims of its answers.
---     most                  how many steps there has to be room for, and the most that are written
+--     most, mostEach        how many steps there has to be room for, and the most that are written; the most that are shared, or of one literal
 --     space                 there is room for as many steps as the shortest column has places
 --     Answers               the reply to a text: refused as the finder refuses, then 10 where there is no room, also where there is no breach, then the finder's reply
 --     Kept                  a column with its first places written
 --     noConclusions, Bare   no conclusion; no step, no conclusion, and the columns as before
 --     stepsIn               the first steps of three columns
---     Shown, ShownFor       steps and conclusions that are accepted, each step cited by a later one or a conclusion; for the rule that a text says
+--     Shown, ShownFor       steps and conclusions that are accepted, few in all and for each owner, each step cited by a later one or a conclusion; for the rule that a text says
 --     Leaves                what is written for a reply
 --     Writes                the answer to a text, and the lent columns afterwards
 -- The choice of the steps is free. Assumes nothing.
@@ -23,11 +23,15 @@ use Rattle.meaning.specs.GroundColumns.{stepsFrom}
 use Rattle.verifier.specs.declared.Conclusions.{Conclusions}
 use Rattle.judging.specs.Claims.{concludedIn}
 use Rattle.finder.specs.Claims.{toldBy, toldOf}
-use Rattle.batches.specs.Drawing.{Used}
+use Rattle.batches.specs.Drawing.{Used, ownedBy}
 use Rattle.writer.specs.declared.Grounds.{Grounds}
 
 abbrev pub most : ℕ
 most = 278528
+
+-- shared, or of one literal
+abbrev pub mostEach : ℕ
+mostEach = 16384
 
 abbrev pub space : List ℕ → List ℕ → List ℕ → ℕ
 space firsts seconds thirds = min (length firsts) (min (length seconds) (length thirds))
@@ -64,6 +68,7 @@ module _ (firsts seconds thirds : List ℕ) (r : Grounds) (firsts′ seconds′ 
   pub record Shown (c : Context) (k : Clause) : Type 0 where
     pub literals : r .literals ≡ length (k .literals)
     pub few : r .steps ≤ most
+    pub fewEach : (owner : ℕ) → ownedBy owner (stepsIn (r .steps) firsts′ seconds′ thirds′) ≤ mostEach
     pub verified : Verified c k (r .places) (stepsIn (r .steps) firsts′ seconds′ thirds′) (concludedIn (r .conclusions)) accepted
     pub used : (p : ℕ) → p < r .steps
         → Used (stepsIn (r .steps) firsts′ seconds′ thirds′) (λ j. conclusionFor (suc j) (concludedIn (r .conclusions))) (r .literals) p
