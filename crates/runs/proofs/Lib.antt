@@ -1,0 +1,5 @@
+pub mod Controls
+pub mod Deciding
+pub mod Formed
+pub mod Growing
+pub mod Saying

@@ -1,0 +1,40 @@
+-- How much a text may hold, and how many numbers a run has for each piece of it: the constants of src/limits.rt.
+--     mostRows .. mostVariables     how many a context or a rule has at the most
+--     rowSize .. literalSize        the numbers of one row, statement, pattern row or literal
+--     argPlaces                     the places for a row's arguments
+--     unusedPlace                   what stands for no row
+-- Assumes nothing.
+use Prim.Native.Nat.{ℕ}
+
+abbrev pub mostRows : ℕ
+mostRows = 255
+
+abbrev pub mostStatements : ℕ
+mostStatements = 510
+
+abbrev pub mostPatterns : ℕ
+mostPatterns = 64
+
+abbrev pub mostLiterals : ℕ
+mostLiterals = 16
+
+abbrev pub mostVariables : ℕ
+mostVariables = 4
+
+abbrev pub rowSize : ℕ
+rowSize = 6
+
+abbrev pub saidSize : ℕ
+saidSize = 3
+
+abbrev pub patternSize : ℕ
+patternSize = 7
+
+abbrev pub literalSize : ℕ
+literalSize = 3
+
+abbrev pub argPlaces : ℕ
+argPlaces = 4
+
+abbrev pub unusedPlace : ℕ
+unusedPlace = 255
