@@ -1,4 +1,4 @@
--- What the inner functions of the closing ask and answer; no contract of a public function cites it.
+-- What the inner functions of the closing ask and answer. `further`, which goes on from a closed table, cites it too.
 --     Laid, Comparable, Seated        rows that have their places
 --     argReps, sameArgs               two rows compared
 --     stateStep                       one statement of a pass over the statements
