@@ -5,3 +5,4 @@ pub mod Filling
 pub mod Readback
 pub mod Whole
 pub mod Output
+pub mod Controls

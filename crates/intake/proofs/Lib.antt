@@ -4,3 +4,4 @@ pub mod Filled
 pub mod Lined
 pub mod Noting
 pub mod Standing
+pub mod Controls

@@ -2,3 +2,4 @@
 pub mod Holding
 pub mod Judging
 pub mod Answers
+pub mod Controls

@@ -1,0 +1,76 @@
+-- What `grounds` prints, tried on one text, the lullaby of the sheet: whatever meets the claims prints its breach and some grounds.
+--     some-line        the line that comes first
+--     no-frameless     a candidate with no line behind it
+--     no-idle          a filler that stays where it is, though there is a line left and room for it
+-- Assumes nothing.
+use mathlib.Core.Bool.{Bool, true, false}
+use mathlib.Core.List.{List, []}
+use mathlib.Core.Path.{_≡_, refl, ap, sym, _∙_, subst}
+use Prim.Native.Nat.{ℕ, zero, suc, _-_, _≤_, _<_}
+use native.Mathlib.Omega.{arith}
+use lib.Dec.{ltb}
+use borrow.Author.Tests.{ltb-true, ltb-false}
+use lib.ListN.{length, length-append}
+use Rattle.meaning.specs.Writing.{frame, hex, digitOf}
+use Rattle.meaning.specs.Replies.{Reply, breach, codeOf, valuesOf, printed}
+use Rattle.meaning.specs.Sheet.{bytes}
+use Rattle.verifier.specs.declared.Conclusions.{Conclusions}
+use Rattle.normaliser.specs.Pieces.{run}
+use Rattle.normaliser.specs.Prints.{Prints}
+use Rattle.writer.specs.Claims.{most, space}
+use Rattle.writer.proofs.Controls.{lullaby, lullaby-short, reply-is, no-stepless}
+use Rattle.framing.specs.Lines.{sizeAt}
+use Rattle.framing.specs.Filling.{stepCount, itemCount, lineIn, framesFrom, Fills}
+use Rattle.framing.specs.Opening.{Opens, long, replies}
+use Rattle.framing.specs.declared.Filled.{Filled}
+use Rattle.framing.specs.declared.opening.Opened.{Opened}
+use Rattle.framing.proofs.Frames.{length-item, size-step, size-end}
+use Rattle.framing.proofs.Filling.{fills-on}
+use Rattle.framing.proofs.Output.{opened-steps}
+
+size-some : (n p : ℕ) → 0 < sizeAt n p
+size-some n p = go (ltb p n) refl
+  where
+    go : (b : Bool) → ltb p n ≡ b → 0 < sizeAt n p
+    go true e = omega (arith, size-step n p (ltb-true p n e))
+    go false e = omega (arith, size-end n p (ltb-false p n e))
+
+-- frames with a line are not empty
+run-some : (firsts seconds thirds : List ℕ) (steps : ℕ) (d : Conclusions) (k : ℕ) → 0 < k → run (lineIn firsts seconds thirds steps d) 0 k ≡ [] → ⊥
+unfolding run
+run-some firsts seconds thirds steps d zero h e = omega arith
+run-some firsts seconds thirds steps d (suc k) h e =
+    let n : ℕ = stepCount firsts seconds thirds steps in
+    omega (
+      arith,
+      ap length e,
+      length-append (lineIn firsts seconds thirds steps d 0) (run (lineIn firsts seconds thirds steps d) 1 k),
+      length-item firsts seconds thirds n d 0,
+      size-some n 0,
+    )
+
+module _ (firsts seconds thirds : List ℕ) (roomy : most ≤ space firsts seconds thirds) (o : Opened) where
+  pub some-line : (x y z : List ℕ) → Opens lullaby firsts seconds thirds o x y z → Prints (bytes "08020001\n") (o .line .bytes) (o .line .len)
+  unfolding printed frame hex digitOf codeOf valuesOf bytes
+  some-line x y z (long h p e) = absurd (omega (arith, lullaby-short))
+  some-line x y z (replies few r a b c w p e) =
+      subst (λ (u : Reply). Prints (printed u) (o .line .bytes) (o .line .len)) (reply-is firsts seconds thirds roomy r a b c w) p
+
+  pub no-frameless : (x y z : List ℕ) → Opens lullaby firsts seconds thirds o x y z → framesFrom x y z (o .steps) (o .conclusions) (o .literals) 0 ≡ [] → ⊥
+  no-frameless x y z (long h p e) f = omega (arith, lullaby-short)
+  no-frameless x y z (replies few r a b c w p e) f =
+      run-some a b c (o .steps) (o .conclusions) (itemCount a b c (o .steps) (o .literals) - 0)
+      (omega (arith, opened-steps lullaby firsts seconds thirds o a b c roomy (replies few r a b c w p e), some (o .steps) refl))
+      f
+    where
+      some : (n : ℕ) → o .steps ≡ n → 0 < o .steps
+      some zero q = absurd (no-stepless firsts seconds thirds roomy r a b c w (sym (e .steps) ∙ q))
+      some (suc n) q = omega arith
+
+pub no-idle : (firsts seconds thirds : List ℕ) (steps : ℕ) (d : Conclusions) (literals from : ℕ) (lent : List ℕ) (r : Filled) (after : List ℕ) → 51 ≤ length lent
+    → from < itemCount firsts seconds thirds steps literals
+    → Fills firsts seconds thirds steps d literals from lent r after
+    → r .next ≡ from
+    → ⊥
+no-idle firsts seconds thirds steps d literals from lent r after room left w e =
+    omega (arith, w .next, fills-on firsts seconds thirds steps d literals from (length lent) room left)
