@@ -1,0 +1,144 @@
+-- What the functions below `close`, `clash` and `apart` ask and answer.
+--     chains, mostArgs                how many there are of each
+--     Laid, Seated                    rows that have their places
+--     argReps, sameArgs               two rows compared
+--     stateStep                       one statement of a pass over the statements
+--     mix, keyOf, Last, Mate, Joined  chains of rows, and the search along one
+--     Kept, Grown, Outcome, Passed    the table between passes, and what a pass does to it
+--     Found, Nearer                   merges that follow a merge
+--     differenceAt .. apartAt         one statement, as `clash` and `apart` read it
+-- Assumes nothing.
+use mathlib.Core.Bool.{Bool, true, false, not, _&&_, _||_}
+use mathlib.Core.List.{List, [], _∷_, map}
+use mathlib.Core.Path.{_≡_}
+use mathlib.Core.Logic.{_⊎_}
+use Prim.Native.Nat.{ℕ, zero, suc, _+_, _*_, _%_, _≤_, _<_}
+use lib.Dec.{eqb}
+use lib.ListN.{length, getD}
+use Rattle.meaning.specs.Context.{Row, rowAt}
+use Rattle.meaning.specs.Equality.{repAt}
+use Rattle.meaning.specs.Formed.{Ordered}
+use Rattle.meaning.specs.ByTable.{sameList}
+use Rattle.meaning.specs.Closing.{Sofar, total, unite, agree}
+use Rattle.runs.specs.Limits.{mostRows, rowSize, argPlaces}
+use Rattle.runs.specs.Runs.{argsFrom, rowCount, countIn, kindIn, leftIn, rightIn}
+
+-- how many chains rows are kept on, and how many places of arguments the links lead over
+abbrev pub chains : ℕ
+chains = 256
+
+abbrev pub mostArgs : ℕ
+mostArgs = mostRows * argPlaces
+
+-- no more rows than the scratch arrays have places for, and no row with more than four arguments
+pub record Laid (run : List ℕ) : Type 0 where
+  pub room : rowCount run ≤ mostRows
+  pub few : (i : ℕ) → i < rowCount run → countIn run i ≤ argPlaces
+
+-- row i is there, and count is no more than it has places for arguments
+pub record Seated (run : List ℕ) (i count : ℕ) : Type 0 where
+  pub inside : i < rowCount run
+  pub four : count ≤ argPlaces
+
+-- the representatives of the first count arguments of row i
+abbrev pub argReps : List ℕ → List ℕ → ℕ → ℕ → List ℕ
+argReps run t i count = map (repAt t) (argsFrom run (i * rowSize + 2) count)
+
+unfoldable pub sameArgs : List ℕ → List ℕ → ℕ → ℕ → ℕ → Bool
+sameArgs run t i j count = sameList (argReps run t i count) (argReps run t j count)
+
+-- ---- the stated equations
+
+unfoldable pub stateStep : List ℕ → ℕ → List ℕ → List ℕ
+stateStep said k l = elim (eqb (kindIn said k) 2) [ true ↦ unite (leftIn said k) (rightIn said k) l | false ↦ l ]
+
+-- ---- chains
+
+-- a key with the elements of a list mixed in
+unfoldable pub mix : ℕ → List ℕ → ℕ
+mix s [] = s
+mix s (a ∷ l) = mix ((s * 31 + a) % chains) l
+
+-- rows that agree have one key
+unfoldable pub keyOf : List Row → List ℕ → ℕ → ℕ
+keyOf rows l i = mix ((rowAt rows i .symbol * 37) % chains) (map (repAt l) (rowAt rows i .args))
+
+-- the last of the first n rows with the key b, as one more than its number, or 0 where there is none
+pub record Last (key : ℕ → ℕ) (n b at : ℕ) : Type 0 where
+  pub bound : at ≤ n
+  pub passed : (j : ℕ) → at ≤ j → j < n → key j ≡ b → ⊥
+  pub holds : (p : ℕ) → at ≡ suc p → key p ≡ b
+
+-- each of the first n rows leads to the last row before it with its key
+abbrev pub Nexts : (ℕ → ℕ) → List ℕ → ℕ → Type 0
+Nexts key next n = (j : ℕ) → j < n → Last key j (key j) (getD next j 0)
+
+-- what the search of row i's mate finds: an earlier row that agrees with it; or nothing, and then none on its chain does
+pub record Mate (rows : List Row) (l next : List ℕ) (i head at : ℕ) : Type 0 where
+  pub bound : at ≤ i
+  pub agrees : (p : ℕ) → at ≡ suc p → agree rows l i p ≡ true
+  pub none : (key : ℕ → ℕ) → Nexts key next i → Last key i (key i) head → at ≡ 0
+      → (j : ℕ) → j < i → key j ≡ key i → agree rows l i j ≡ false
+
+abbrev pub uniteAt : ℕ → ℕ → List ℕ → List ℕ
+uniteAt i zero l = l
+uniteAt i (suc p) l = unite i p l
+
+pub record Joined (rows : List Row) (next : List ℕ) (i head : ℕ) (l m : List ℕ) : Type 0 where
+  pub at : ℕ
+  pub mate : Mate rows l next i head at
+  pub so : m ≡ uniteAt i at l
+
+-- ---- passes
+
+-- what holds of the table from the start to the end
+pub record Kept (rows : List Row) (eqs : List (ℕ × ℕ)) (l : List ℕ) : Type 0 where
+  pub long : length l ≡ length rows
+  pub so : Sofar rows eqs (repAt l)
+
+-- rows that have one representative go on to have one
+abbrev pub Grown : ℕ → List ℕ → List ℕ → Type 0
+Grown n l m = (x y : ℕ) → x < n → y < n → repAt l x ≡ repAt l y → repAt m x ≡ repAt m y
+
+-- from l to m: nothing changed, and a goal is met; or the sum fell
+pub record Outcome (rows : List Row) (eqs : List (ℕ × ℕ)) (Ok : Type 0) (l m : List ℕ) : Type 0 where
+  pub kept : Kept rows eqs m
+  pub grown : Grown (length rows) l m
+  pub did : ((m ≡ l) × Ok) ⊎ (total (length rows) (repAt m) < total (length rows) (repAt l))
+
+-- each two of the first n rows that agree have one representative
+abbrev pub Alike : List Row → ℕ → List ℕ → Type 0
+Alike rows n l =
+    (i j : ℕ) → i < n → j < n → rowAt rows i .symbol ≡ rowAt rows j .symbol
+    → map (repAt l) (rowAt rows i .args) ≡ map (repAt l) (rowAt rows j .args) → repAt l i ≡ repAt l j
+
+pub record Passed (rows : List Row) (l m : List ℕ) : Type 0 where
+  pub outcome : (eqs : List (ℕ × ℕ)) → Ordered rows → Kept rows eqs l → Outcome rows eqs (Alike rows (length rows) l) l m
+
+-- ---- merges that follow a merge
+
+-- a row that agrees with row i, as one more than its number, or 0 where none is found
+pub record Found (rows : List Row) (l : List ℕ) (n i at : ℕ) : Type 0 where
+  pub bound : at ≤ n
+  pub agrees : (p : ℕ) → at ≡ suc p → agree rows l i p ≡ true
+
+-- from l to m: what holds of the table goes on to hold, and the sum does not rise
+pub record Nearer (rows : List Row) (l m : List ℕ) : Type 0 where
+  pub outcome : (eqs : List (ℕ × ℕ)) → Ordered rows → Kept rows eqs l → Outcome rows eqs (Unit {0}) l m
+
+-- ---- stated differences, by a table
+
+unfoldable pub differenceAt : List ℕ → ℕ → ℕ
+differenceAt said k = elim (eqb (kindIn said k) 2) [ true ↦ 0 | false ↦ 1 ]
+
+unfoldable pub clashAt : List ℕ → List ℕ → ℕ → Bool
+clashAt said t k = not (eqb (kindIn said k) 2) && eqb (repAt t (leftIn said k)) (repAt t (rightIn said k))
+
+unfoldable pub bothSame : ℕ → ℕ → ℕ → ℕ → Bool
+bothSame a b p q = eqb a p && eqb b q
+
+unfoldable pub eitherSame : ℕ → ℕ → ℕ → ℕ → Bool
+eitherSame a b p q = bothSame a b p q || bothSame b a p q
+
+unfoldable pub apartAt : List ℕ → List ℕ → ℕ → ℕ → ℕ → Bool
+apartAt said t k a b = not (eqb (kindIn said k) 2) && eitherSame a b (repAt t (leftIn said k)) (repAt t (rightIn said k))
