@@ -26,7 +26,7 @@ use Rattle.channels.specs.declared.output.Sent.{Sent}
 use Rattle.channels.specs.Sending.{noneSent, bothOf, wholeBy, Carries, Delivers}
 use Rattle.channels.proofs.Fronts.{front-fits, front-taken, first-count}
 use Rattle.channels.proofs.Sending.{carries-none, carries-both, delivers-one, delivers-none}
-use Rattle.channels.proofs.Taking.{takes-within}
+use Rattle.channels.proofs.Taking.{takes-within, takes-read}
 use Rattle.breaches.specs.Giving.{pieceRoom, Gives, ListedFrom}
 use Rattle.breaches.proofs.Handing.{head-fits, head-heads, head-whole, head-left}
 
@@ -94,4 +94,4 @@ module _ (c : ContextColumns) (t : List ℕ) (k : ClauseColumns) where
       (g .runs)
 
 pub ruleset mine =
-    (needs, opened-lent, first-count, takes-within, head-fits, head-heads, head-whole, head-left, piece-fits, piece-runs, listed-start, listed-next, listed-left, listed-done, turn-less)
+    (needs, opened-lent, first-count, takes-within, takes-read, head-fits, head-heads, head-whole, head-left, piece-fits, piece-runs, listed-start, listed-next, listed-left, listed-done, turn-less)

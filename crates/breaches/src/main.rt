@@ -18,6 +18,7 @@ ghost use mathlib.Core.Path.{_≡_};
 ghost use Rattle.meaning.specs.Text.{narrow};
 ghost use Rattle.meaning.specs.Listing.{BreachesPrints};
 ghost use Rattle.listing.specs.Filling.{Lent, Runs};
+ghost use Rattle.channels.specs.Taking.{Read};
 ghost use Rattle.channels.specs.Sending.{Carries, Delivers};
 ghost use Rattle.breaches.specs.Giving.{pieceRoom, Heads, Gives, ListedFrom};
 
@@ -100,7 +101,8 @@ fn list(
     sent
 }
 
-fn answer(input: &[u8]) -> Sent
+fn answer(got: Got, input: &[u8]) -> Sent
+    requires { ⌜ Read got (now input) ⌝ }
     ensures { λ s. ⌜ Delivers (BreachesPrints narrow (now (input .entry))) s ⌝ }
 {
     let opened = listing::opening::open(input);
@@ -125,7 +127,7 @@ fn main() {
     let mut input = input_space();
     let got = take_input(&mut input);
     match got {
-        Got::Bytes(n) => report(answer(&input[..n])),
+        Got::Bytes(n) => report(answer(got, &input[..n])),
         Got::Failed => tell(FAILED),
     }
 }

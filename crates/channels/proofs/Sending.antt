@@ -1,7 +1,7 @@
 -- What became of bytes that were handed over, part by part.
 --     sends-whole, sends-left, sends-failed    the ways out of `send`
 --     both-whole, both-left, both-failed       the ways out of `both`
---     carries-none, carries-both               nothing; one part and then another
+--     carries-none, carries-left, carries-both nothing; what was not taken whole; one part and then another
 --     delivers-one, delivers-none              bytes that are the output; what was not taken whole
 --     delivers-after                           bytes, and then an output
 -- Assumes nothing.
@@ -41,6 +41,9 @@ module _ (a b : Sent) where
 
 pub carries-none : Carries [] noneSent
 carries-none = record { size = λ e. refl }
+
+pub carries-left : (x : List ℕ) (s : Sent) → wholeBy (s .fate) ≡ false → Carries x s
+carries-left x s h = record { size = λ e. absurd (let z : true ≡ false = sym (ap wholeBy e) ∙ h in let y : _≡_ {A = ℕ} 0 1 = cc in omega arith) }
 
 pub carries-both : (x y : List ℕ) (a b r : Sent) → r ≡ bothOf (a .fate) a b → Carries x a → Carries y b → Carries (x ++ y) r
 unfolding bothOf

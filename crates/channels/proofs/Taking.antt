@@ -1,17 +1,18 @@
 -- Bytes read into a space, part by part.
 --     takes-bytes, takes-failed    the ways out
 --     takes-same                   an answer that is handed on
---     takes-within                 what was read stands in the space
+--     takes-within, takes-read     what was read stands in the space; that is all that was read
 -- Assumes nothing.
 use mathlib.Core.List.{List}
-use mathlib.Core.Path.{_≡_, sym, subst}
+use mathlib.Core.Path.{_≡_, sym, ap, subst}
 use Prim.Native.Nat.{ℕ, _≤_}
 use native.Mathlib.Omega.{arith}
 use borrow.Author.Needs.{needs}
-use lib.ListN.{length}
+use lib.ListN.{length, take}
+use lib.Seq.{length-take-le}
 use Rattle.channels.specs.declared.input.Got.{Got}
 use Rattle.channels.specs.declared.input.Got.the-variants.{Bytes, Failed}
-use Rattle.channels.specs.Taking.{Takes}
+use Rattle.channels.specs.Taking.{Takes, Read}
 
 pub takes-bytes : (n : ℕ) (space : List ℕ) → n ≤ length space → Takes (Bytes n) space
 takes-bytes n space h = record { within = λ k e. let z : k ≡ n = cc in omega arith }
@@ -24,5 +25,8 @@ takes-same q r space e t = subst (λ (g : Got). Takes g space) (sym e) t
 
 pub takes-within : (r : Got) (space : List ℕ) (n : ℕ) → Takes r space → r ≡ Bytes n → n ≤ length space
 takes-within r space n t e = t .within n e
+
+pub takes-read : (r : Got) (space : List ℕ) (n : ℕ) → Takes r space → r ≡ Bytes n → Read (Bytes n) (take n space)
+takes-read r space n t e = record { all = ap Bytes (sym (length-take-le n space (t .within n e))) }
 
 pub ruleset mine = (needs, takes-bytes, takes-failed, takes-same)

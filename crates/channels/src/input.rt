@@ -2,10 +2,10 @@
 use crate::moves::Move;
 use crate::moves::read_once;
 ghost use mathlib.Core.Path.{_≡_};
-ghost use Prim.Native.Nat.{suc, _<_};
-ghost use lib.ListN.{length};
+ghost use Prim.Native.Nat.{suc};
+ghost use lib.ListN.{replicate};
 ghost use Rattle.meaning.specs.Replies.{inputLimit};
-ghost use Rattle.channels.specs.Taking.{Takes};
+ghost use Rattle.channels.specs.Taking.{pieceSpace, Takes};
 
 // One byte more than a program takes, so that an input that is too long is known.
 pub const INPUT_SPACE: usize = 16385;
@@ -20,13 +20,13 @@ pub enum Got {
 }
 
 pub fn input_space() -> [u8; INPUT_SPACE]
-    ensures long { λ r. ⌜ length r ≡ suc inputLimit ⌝ }
+    ensures zeros { λ r. ⌜ r ≡ replicate (suc inputLimit) 0 ⌝ }
 {
     [0; INPUT_SPACE]
 }
 
 pub fn piece_space() -> [u8; PIECE_SPACE]
-    ensures some { λ r. ⌜ 0 < length r ⌝ }
+    ensures zeros { λ r. ⌜ r ≡ replicate pieceSpace 0 ⌝ }
 {
     [0; PIECE_SPACE]
 }
@@ -79,4 +79,12 @@ pub fn take_piece(space: &mut [u8; PIECE_SPACE]) -> Got
 {
     let got = fill(space);
     said(got)
+}
+
+// Says on standard error that an input came to no end in as many pieces as can be counted.
+pub fn say_endless() {
+    io::write_all(
+        libc::STDERR_FILENO,
+        b"standard input: there is no end to it\n",
+    );
 }

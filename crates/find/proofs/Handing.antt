@@ -12,7 +12,7 @@ use Rattle.meaning.specs.Replies.{FindPrints}
 use Rattle.normaliser.specs.declared.printed.Line.{Line}
 use Rattle.printing.specs.Claims.{PrintsFound}
 use Rattle.channels.proofs.Fronts.{front-fits, front-taken, first-count}
-use Rattle.channels.proofs.Taking.{takes-within}
+use Rattle.channels.proofs.Taking.{takes-within, takes-read}
 
 module _ (input : List ℕ) (r : Line) (p : PrintsFound input r) where
   abbrev rest : List ℕ
@@ -24,4 +24,4 @@ module _ (input : List ℕ) (r : Line) (p : PrintsFound input r) where
   pub line-prints : FindPrints narrow input (take (r .len) (r .bytes))
   line-prints = subst (FindPrints narrow input) (sym (front-taken (p .line) rest (r .bytes) (r .len) (p .front .size) (p .front .front))) (p .prints)
 
-pub ruleset mine = (needs, first-count, takes-within, line-fits, line-prints)
+pub ruleset mine = (needs, first-count, takes-within, takes-read, line-fits, line-prints)

@@ -9,6 +9,7 @@ use channels::telling::report;
 use channels::telling::tell;
 ghost use Rattle.meaning.specs.Text.{narrow};
 ghost use Rattle.meaning.specs.Replies.{FindPrints};
+ghost use Rattle.channels.specs.Taking.{Read};
 ghost use Rattle.channels.specs.Sending.{Delivers};
 
 // Hands over what has to be printed for an input.
@@ -19,7 +20,8 @@ fn hand<'a>(input: &'a [u8], line: &'a [u8]) -> Sent
     put(line)
 }
 
-fn answer(input: &[u8]) -> Sent
+fn answer(got: Got, input: &[u8]) -> Sent
+    requires { ⌜ Read got (now input) ⌝ }
     ensures { λ s. ⌜ Delivers (FindPrints narrow (now (input .entry))) s ⌝ }
 {
     let line = printing::find_prints(input);
@@ -32,7 +34,7 @@ fn main() {
     let mut input = input_space();
     let got = take_input(&mut input);
     match got {
-        Got::Bytes(n) => report(answer(&input[..n])),
+        Got::Bytes(n) => report(answer(got, &input[..n])),
         Got::Failed => tell(FAILED),
     }
 }

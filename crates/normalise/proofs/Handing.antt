@@ -1,15 +1,15 @@
 -- The parts that are handed over are what has to be printed.
---     parts-both     one part, and then the other
---     line-fits      the line's bytes stand in the array
+--     parts-both, parts-first             one part, and then the other; a first part that was not taken
+--     line-fits, text-fits, parts-print   the bytes of each part stand in their space; joined they are what has to be printed
 -- Assumes nothing.
 use mathlib.Core.Bool.{Bool, true, not}
 use mathlib.Core.List.{List, [], _++_}
-use mathlib.Core.Path.{_≡_, sym, _∙_}
+use mathlib.Core.Path.{_≡_, sym, ap, _∙_}
 use Prim.Native.Nat.{ℕ, _-_, _≤_}
 use native.Mathlib.Omega.{arith}
 use borrow.Author.Needs.{needs}
 use borrow.Author.Tests.{not-true}
-use lib.ListN.{length, take, replicate}
+use lib.ListN.{length, take, replicate, length-replicate}
 use Rattle.meaning.specs.Text.{narrow}
 use Rattle.meaning.specs.Replies.{refused, printed, NormalisePrints, Written, wrote, unwritten}
 use Rattle.normaliser.specs.Prints.{Prints}
@@ -20,7 +20,7 @@ use Rattle.channels.specs.declared.output.Sent.{Sent}
 use Rattle.channels.specs.Sending.{bothOf, wholeBy, Carries, Delivers}
 use Rattle.channels.proofs.Sending.{carries-both, delivers-one, delivers-none}
 use Rattle.channels.proofs.Fronts.{front-fits, first-count}
-use Rattle.channels.proofs.Taking.{takes-within}
+use Rattle.channels.proofs.Taking.{takes-within, takes-read}
 
 pub parts-both : (input text line : List ℕ) (a b r : Sent) → NormalisePrints narrow input (text ++ line) → Carries text a → Carries line b
     → r ≡ bothOf (a .fate) a b → Delivers (NormalisePrints narrow input) r
@@ -43,7 +43,7 @@ module _ (input space : List ℕ) (r : Parts) (after : List ℕ) (p : PrintsNorm
   pub text-fits : r .text ≤ length after
   text-fits = output-fits input space after r p
 
-  pub parts-print : length space ≡ normalLimit → NormalisePrints narrow input (take (r .text) after ++ take (r .line .len) (r .line .bytes))
-  parts-print e = output-prints input space after r (omega arith) p
+  pub parts-print : space ≡ replicate normalLimit 0 → NormalisePrints narrow input (take (r .text) after ++ take (r .line .len) (r .line .bytes))
+  parts-print e = output-prints input space after r (omega (arith, ap length e, length-replicate {A = ℕ} normalLimit 0)) p
 
-pub ruleset mine = (needs, first-count, takes-within, parts-both, parts-first, line-fits, text-fits, parts-print)
+pub ruleset mine = (needs, first-count, takes-within, takes-read, parts-both, parts-first, line-fits, text-fits, parts-print)

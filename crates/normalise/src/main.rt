@@ -12,6 +12,7 @@ use channels::telling::tell;
 ghost use mathlib.Core.List.{_++_};
 ghost use Rattle.meaning.specs.Text.{narrow};
 ghost use Rattle.meaning.specs.Replies.{NormalisePrints};
+ghost use Rattle.channels.specs.Taking.{Read};
 ghost use Rattle.channels.specs.Sending.{Delivers};
 
 // Hands over what has to be printed for an input, in two parts.
@@ -27,7 +28,8 @@ fn hand<'a>(input: &'a [u8], text: &'a [u8], line: &'a [u8]) -> Sent
     both(first, then)
 }
 
-fn answer(input: &[u8]) -> Sent
+fn answer(got: Got, input: &[u8]) -> Sent
+    requires { ⌜ Read got (now input) ⌝ }
     ensures { λ s. ⌜ Delivers (NormalisePrints narrow (now (input .entry))) s ⌝ }
 {
     let mut space = printing::normal_space();
@@ -43,7 +45,7 @@ fn main() {
     let mut input = input_space();
     let got = take_input(&mut input);
     match got {
-        Got::Bytes(n) => report(answer(&input[..n])),
+        Got::Bytes(n) => report(answer(got, &input[..n])),
         Got::Failed => tell(FAILED),
     }
 }

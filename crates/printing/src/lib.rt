@@ -8,7 +8,7 @@ use normaliser::printed::none_line;
 use normaliser::printed::refusal_line;
 ghost use mathlib.Core.Path.{_≡_};
 ghost use mathlib.Core.List.{[]};
-ghost use lib.ListN.{length};
+ghost use lib.ListN.{replicate};
 ghost use Rattle.meaning.specs.Replies.{refused, refusal, printed};
 ghost use Rattle.normaliser.specs.Prints.{Prints};
 ghost use Rattle.printing.specs.Claims.{normalLimit, PrintsFound, PrintsNormal};
@@ -71,7 +71,7 @@ fn no_line() -> Line
 
 // Space for any normal text.
 pub fn normal_space() -> [u8; NORMAL_SPACE]
-    ensures long { λ r. ⌜ length r ≡ normalLimit ⌝ }
+    ensures zeros { λ r. ⌜ r ≡ replicate normalLimit 0 ⌝ }
 {
     [0; NORMAL_SPACE]
 }
