@@ -1,2 +1,2 @@
 -- The root of the laws.
-pub mod Advancing
+pub mod Handing

@@ -1,2 +1,2 @@
 -- The root of the definitions.
-pub mod Advances
+pub mod Giving

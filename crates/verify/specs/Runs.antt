@@ -1,31 +1,73 @@
 -- What the program claims of a run. No contract can name what is read, so each claim says only that there is an input.
---     Takes       an input was taken in
---     Spaces      the spaces are long enough
---     Verifies    a line is the one that the input asks for
+--     turnOf                  whether the input goes on after a piece: it ended with one that is not full
+--     leftBy                  how many turns are left after one: none where there is nothing more to take
+--     Takes                   an input was taken in
+--     TakesPiece, TakesAll    a piece, of at least a byte where there may be more; all pieces, more than can be counted where there may still be more
+--     Spaces, Ready           the spaces are long enough; they were, and an input was taken in from the start to its end
+--     Verified, Verifies      a line is the one that an input asks for; it stands at the front of an array
 -- Assumes nothing.
+use mathlib.Core.Bool.{true, false}
 use mathlib.Core.List.{List}
 use mathlib.Core.Path.{_≡_}
-use Prim.Native.Nat.{ℕ, _≤_}
+use Prim.Native.Nat.{ℕ, _-_, _≤_, _<_}
+use lib.Dec.{ltb}
 use lib.ListN.{length}
 use Rattle.meaning.specs.Text.{narrow}
-use Rattle.intake.specs.Machine.{Memory, memory, fed}
+use Rattle.meaning.specs.Replies.{inputLimit}
+use Rattle.intake.specs.Machine.{Memory, memory, fresh, fed}
 use Rattle.intake.specs.declared.Parser.{Parser}
-use Rattle.verifying.specs.Replies.{VerifyPrints}
+use Rattle.verifying.specs.Replies.{stepLimit, VerifyPrints}
 use Rattle.verifying.specs.Claims.{Prints}
 use Rattle.verifying.specs.declared.Line.{Line}
+use Rattle.channels.specs.Taking.{pieceSpace}
+use Rattle.channels.specs.declared.input.Got.{Got}
+use Rattle.channels.specs.declared.input.Got.the-variants as G
+use Rattle.verify.specs.declared.Turn.{Turn}
+use Rattle.verify.specs.declared.Turn.the-variants.{More, Ended, Failed}
+use Rattle.verify.specs.declared.Taken.{Taken}
+
+abbrev pub turnOf : Got → Turn
+turnOf (G.Bytes n) = elim (ltb n pieceSpace) [ true ↦ Ended | false ↦ More ]
+turnOf G.Failed = Failed
+
+abbrev pub leftBy : Turn → ℕ → ℕ
+leftBy More turns = turns - 1
+leftBy Ended turns = 0
+leftBy Failed turns = 0
 
 pub record Takes (m : Memory) (p : Parser) (text firsts seconds thirds : List ℕ) : Type 0 where
   pub input : List ℕ
   pub same : memory p text firsts seconds thirds ≡ fed input m
 
+pub record TakesPiece (m : Memory) (r : Taken) (text firsts seconds thirds : List ℕ) : Type 0 where
+  pub takes : Takes m (r .parser) text firsts seconds thirds
+  pub some : r .turn ≡ More → 0 < length (takes .input)
+
+pub record TakesAll (m : Memory) (r : Taken) (text firsts seconds thirds : List ℕ) : Type 0 where
+  pub takes : Takes m (r .parser) text firsts seconds thirds
+  pub endless : r .turn ≡ More → 18446744073709551615 ≤ length (takes .input)
+
 pub record Spaces (text firsts seconds thirds : List ℕ) : Type 0 where
-  pub text-long : 16384 ≤ length text
-  pub firsts-long : 278528 ≤ length firsts
-  pub seconds-long : 278528 ≤ length seconds
-  pub thirds-long : 278528 ≤ length thirds
+  pub text-long : inputLimit ≤ length text
+  pub firsts-long : stepLimit ≤ length firsts
+  pub seconds-long : stepLimit ≤ length seconds
+  pub thirds-long : stepLimit ≤ length thirds
+
+-- by the spaces before
+pub record Ready (r : Taken) (text firsts seconds thirds : List ℕ) : Type 0 where
+  pub text₀ : List ℕ
+  pub firsts₀ : List ℕ
+  pub seconds₀ : List ℕ
+  pub thirds₀ : List ℕ
+  pub spaces : Spaces text₀ firsts₀ seconds₀ thirds₀
+  pub takes : Takes (memory fresh text₀ firsts₀ seconds₀ thirds₀) (r .parser) text firsts seconds thirds
+  pub ended : r .turn ≡ Ended
+
+pub record Verified (line : List ℕ) : Type 0 where
+  pub input : List ℕ
+  pub asked : VerifyPrints narrow input line
 
 pub record Verifies (r : Line) : Type 0 where
-  pub input : List ℕ
   pub line : List ℕ
-  pub asked : VerifyPrints narrow input line
+  pub verified : Verified line
   pub prints : Prints line (r .bytes) (r .len)

@@ -1,72 +1,179 @@
 // Prints what the checker says of the text and the grounds on standard input.
+use channels::input::Got;
+use channels::input::PIECE_SPACE;
+use channels::input::piece_space;
+use channels::input::say_endless;
+use channels::input::take_piece;
+use channels::output::Sent;
+use channels::output::put;
+use channels::telling::FAILED;
+use channels::telling::report;
+use channels::telling::tell;
 use intake::Parser;
 use verifying::Line;
+ghost use mathlib.Core.Path.{_≡_};
+ghost use Prim.Native.Nat.{_<_};
 ghost use Rattle.intake.specs.Machine.{memory, fresh};
-ghost use Rattle.verify.specs.Runs.{Takes, Spaces, Verifies};
+ghost use Rattle.channels.specs.Taking.{Read};
+ghost use Rattle.channels.specs.Sending.{Delivers};
+ghost use Rattle.verify.specs.Runs.{turnOf, leftBy, TakesPiece, TakesAll, Spaces, Ready, Verified, Verifies};
 
-// What was taken in so far, and whether there was anything more.
-struct Taken {
-    parser: Parser,
-    more: bool,
+// The most bytes of a text, and the most steps.
+const TEXT: usize = 16384;
+
+const STEPS: usize = 278528;
+
+// After a piece there may be more; the input ended with it; or it could not be read.
+enum Turn {
+    More,
+    Ended,
+    Failed,
 }
 
-// Takes one piece of standard input.
-fn take_piece(
+// What was taken in so far.
+struct Taken {
+    parser: Parser,
+    turn: Turn,
+}
+
+// A piece that is not full is the last.
+fn turn_after(got: Got) -> Turn
+    ensures { λ r. ⌜ r ≡ turnOf got ⌝ }
+{
+    match got {
+        Got::Bytes(n) => {
+            if n < PIECE_SPACE {
+                Turn::Ended
+            } else {
+                Turn::More
+            }
+        }
+        Got::Failed => Turn::Failed,
+    }
+}
+
+// Takes in a piece that was read.
+fn take_in(
+    p: Parser,
+    got: Got,
+    piece: &[u8],
+    text: &mut [u8],
+    firsts: &mut [u64],
+    seconds: &mut [u64],
+    thirds: &mut [u64],
+) -> Taken
+    requires { ⌜ Read got (now piece) ⌝ }
+    ensures { λ r. ⌜ TakesPiece (memory p (now (text .entry)) (now (firsts .entry)) (now (seconds .entry)) (now (thirds .entry))) r (now (text .exit)) (now (firsts .exit)) (now (seconds .exit)) (now (thirds .exit)) ⌝ }
+{
+    let turn = turn_after(got);
+    let parser = intake::feed(p, piece, text, firsts, seconds, thirds);
+    Taken { parser, turn }
+}
+
+// Takes what comes next of standard input.
+fn take_next(
     p: Parser,
     text: &mut [u8],
     firsts: &mut [u64],
     seconds: &mut [u64],
     thirds: &mut [u64],
 ) -> Taken
-    ensures { λ r. ⌜ Takes (memory p (now (text .entry)) (now (firsts .entry)) (now (seconds .entry)) (now (thirds .entry))) (r .parser) (now (text .exit)) (now (firsts .exit)) (now (seconds .exit)) (now (thirds .exit)) ⌝ }
+    ensures { λ r. ⌜ TakesPiece (memory p (now (text .entry)) (now (firsts .entry)) (now (seconds .entry)) (now (thirds .entry))) r (now (text .exit)) (now (firsts .exit)) (now (seconds .exit)) (now (thirds .exit)) ⌝ }
 {
-    let mut piece = [0u8; 8192];
-    let n = io::read_full(0, &mut piece);
-    let parser = intake::feed(p, &piece[..n], text, firsts, seconds, thirds);
-    Taken {
-        parser,
-        more: n > 0,
+    let mut piece = piece_space();
+    let got = take_piece(&mut piece);
+    match got {
+        Got::Bytes(n) => take_in(p, got, &piece[..n], text, firsts, seconds, thirds),
+        Got::Failed => Taken {
+            parser: p,
+            turn: Turn::Failed,
+        },
     }
 }
 
-// Takes all of standard input. Nothing says that it ends, so the turns are counted down from a number that no run uses up.
-fn take_all(text: &mut [u8], firsts: &mut [u64], seconds: &mut [u64], thirds: &mut [u64]) -> Parser
-    ensures { λ r. ⌜ Takes (memory fresh (now (text .entry)) (now (firsts .entry)) (now (seconds .entry)) (now (thirds .entry))) r (now (text .exit)) (now (firsts .exit)) (now (seconds .exit)) (now (thirds .exit)) ⌝ }
+// How many turns are left: none where there is nothing more to take.
+fn left(turn: Turn, turns: usize) -> usize
+    requires { ⌜ 0 < turns ⌝ }
+    ensures { λ r. ⌜ r ≡ leftBy turn turns ⌝ }
+{
+    match turn {
+        Turn::More => turns - 1,
+        Turn::Ended => 0,
+        Turn::Failed => 0,
+    }
+}
+
+// Takes all of standard input. Nothing says that it ends, so the turns are counted down from a number that no run uses up; where one does, there
+// may still be more.
+fn take_all(text: &mut [u8], firsts: &mut [u64], seconds: &mut [u64], thirds: &mut [u64]) -> Taken
+    ensures { λ r. ⌜ TakesAll (memory fresh (now (text .entry)) (now (firsts .entry)) (now (seconds .entry)) (now (thirds .entry))) r (now (text .exit)) (now (firsts .exit)) (now (seconds .exit)) (now (thirds .exit)) ⌝ }
 {
     let mut p = intake::start();
+    let mut turn = Turn::More;
     let mut turns = usize::MAX;
     while turns > 0 {
-        let taken = take_piece(p, text, firsts, seconds, thirds);
-        p = taken.parser;
-        turns = if taken.more { turns - 1 } else { 0 };
+        let taken = take_next(p, text, firsts, seconds, thirds);
+        let parser = taken.parser;
+        p = parser;
+        turn = taken.turn;
+        turns = left(turn, turns);
     }
-    p
+    Taken { parser: p, turn }
 }
 
-// The line for standard input.
-fn answer(text: &mut [u8], firsts: &mut [u64], seconds: &mut [u64], thirds: &mut [u64]) -> Line
-    requires { ⌜ Spaces (now text) (now firsts) (now seconds) (now thirds) ⌝ }
+// The line for an input that was taken in to its end.
+fn answer(
+    taken: Taken,
+    text: &mut [u8],
+    firsts: &mut [u64],
+    seconds: &mut [u64],
+    thirds: &mut [u64],
+) -> Line
+    requires { ⌜ Ready taken (now text) (now firsts) (now seconds) (now thirds) ⌝ }
     ensures { λ r. ⌜ Verifies r ⌝ }
 {
-    let p = take_all(text, firsts, seconds, thirds);
+    let p = taken.parser;
     let q = intake::finish(p, firsts, seconds, thirds);
     verifying::reply(q, text, firsts, seconds, thirds)
 }
 
-fn put(line: Line) {
+// Hands over a line that some input asks for.
+fn hand(line: &[u8]) -> Sent
+    requires { ⌜ Verified (now line) ⌝ }
+    ensures { λ s. ⌜ Delivers Verified s ⌝ }
+{
+    put(line)
+}
+
+fn deliver(line: Line) -> Sent
+    requires { ⌜ Verifies line ⌝ }
+    ensures { λ s. ⌜ Delivers Verified s ⌝ }
+{
     let bytes = line.bytes;
     let len = line.len;
-    if len <= 16 {
-        let m = io::count(len as isize, &bytes);
-        io::write_all(1, &bytes[..m]);
+    hand(&bytes[..len])
+}
+
+// Where the input ended, its line is handed over; else there is no reply.
+fn run(text: &mut [u8], firsts: &mut [u64], seconds: &mut [u64], thirds: &mut [u64])
+    requires { ⌜ Spaces (now text) (now firsts) (now seconds) (now thirds) ⌝ }
+{
+    let taken = take_all(text, firsts, seconds, thirds);
+    let turn = taken.turn;
+    match turn {
+        Turn::Ended => report(deliver(answer(taken, text, firsts, seconds, thirds))),
+        Turn::More => {
+            say_endless();
+            tell(FAILED);
+        }
+        Turn::Failed => tell(FAILED),
     }
 }
 
 fn main() {
-    let mut text = [0u8; 16384];
-    let mut firsts = [0u64; 278528];
-    let mut seconds = [0u64; 278528];
-    let mut thirds = [0u64; 278528];
-    let line = answer(&mut text, &mut firsts, &mut seconds, &mut thirds);
-    put(line);
+    let mut text = [0u8; TEXT];
+    let mut firsts = [0u64; STEPS];
+    let mut seconds = [0u64; STEPS];
+    let mut thirds = [0u64; STEPS];
+    run(&mut text, &mut firsts, &mut seconds, &mut thirds);
 }
