@@ -21,15 +21,15 @@ use Rattle.meaning.specs.Context.{Row, rowAt}
 use Rattle.meaning.specs.Equality.{repAt}
 use Rattle.meaning.specs.Formed.{Ordered}
 use Rattle.meaning.specs.ByTable.{sameList}
-use Rattle.meaning.specs.Closing.{agree, unite}
+use Rattle.meaning.specs.Closing.{agree}
 use Rattle.meaning.proofs.Logic.{and-true-left, and-true-right, false-true}
 use Rattle.meaning.proofs.Lists.{sameList-true, sameList-self}
 use Rattle.meaning.proofs.Closes.{agree-equal}
 use Rattle.runs.specs.Runs.{rowCount, rowsOf}
 use Rattle.runs.proofs.Saying.{length-rows}
-use Rattle.classes.specs.Steps.{chains, Laid, keyOf, Last, Nexts, Mate, uniteAt, Joined, Kept, Outcome, Alike, Passed}
+use Rattle.classes.specs.Steps.{chains, Laid, merge, keyOf, Last, Nexts, Mate, mergeAt, Joined, Kept, Outcome, Alike, Passed}
 use Rattle.classes.proofs.Rows.{mix-below}
-use Rattle.classes.proofs.Merges.{outcome-none, outcome-then, unite-outcome}
+use Rattle.classes.proofs.Merges.{outcome-none, outcome-then, merge-outcome}
 
 -- ---- rows that agree
 
@@ -116,13 +116,13 @@ seeking-done {rows} {l} {next} {i} {head} {at} s h =
 pub joined-none : (rows : List Row) (next : List ℕ) (i head at : ℕ) (l : List ℕ) → Mate rows l next i head at → at ≤ 0 → Joined rows next i head l l
 joined-none rows next i head at l m h =
     let e : at ≡ 0 = omega arith in
-    record { at = at; mate = m; so = sym (ap (λ (x : ℕ). uniteAt i x l) e) }
+    record { at = at; mate = m; so = sym (ap (λ (x : ℕ). mergeAt i x l) e) }
 
-pub joined-mate : (rows : List Row) (next : List ℕ) (i head at : ℕ) (l n : List ℕ) → Mate rows l next i head at → 0 < at → n ≡ unite i (at - 1) l
+pub joined-mate : (rows : List Row) (next : List ℕ) (i head at : ℕ) (l n : List ℕ) → Mate rows l next i head at → 0 < at → n ≡ merge i (at - 1) l
     → Joined rows next i head l n
 joined-mate rows next i head at l n m h e =
     let q : at ≡ suc (at - 1) = omega arith in
-    record { at = at; mate = m; so = e ∙ sym (ap (λ (x : ℕ). uniteAt i x l) q) }
+    record { at = at; mate = m; so = e ∙ sym (ap (λ (x : ℕ). mergeAt i x l) q) }
 
 -- ---- the pass over the rows
 
@@ -296,13 +296,13 @@ module _ {run : List ℕ} {n : ℕ} {l t heads next : List ℕ} {i : ℕ} (s : P
       row : (eqs : List (ℕ × ℕ)) → Ordered R → Kept R eqs t → Outcome R eqs ((p : ℕ) → joined .at ≡ suc p → repAt t i ≡ repAt t p) t u
       row eqs ordered kept = rw (joined .so) (go (joined .at) refl)
         where
-          go : (a : ℕ) → joined .at ≡ a → Outcome R eqs ((p : ℕ) → joined .at ≡ suc p → repAt t i ≡ repAt t p) t (uniteAt i (joined .at) t)
+          go : (a : ℕ) → joined .at ≡ a → Outcome R eqs ((p : ℕ) → joined .at ≡ suc p → repAt t i ≡ repAt t p) t (mergeAt i (joined .at) t)
           go zero y = rw y (outcome-none R eqs kept (λ p q. absurd (omega arith)))
           go (suc p) y =
               let w : SameAt R t i p = agree-true R t i p (joined .mate .agrees p y) in
               let hp : p < length R = omega (arith, joined .mate .bound, inside) in
-              let o : Outcome R eqs (repAt t i ≡ repAt t p) t (unite i p t) =
-              unite-outcome R eqs t kept i p inside hp (agree-equal R eqs ordered (repAt t) (kept .so) i p inside hp (w .0) (w .1)) in
+              let o : Outcome R eqs (repAt t i ≡ repAt t p) t (merge i p t) =
+              merge-outcome R eqs t kept i p inside hp (agree-equal R eqs ordered (repAt t) (kept .so) i p inside hp (w .0) (w .1)) in
               rw y
               (record { kept = o .kept; grown = o .grown; did = ⊎-elim (λ d. inl (d .0, λ q x. d .1 ∙ ap (repAt t) (omega arith))) (λ d. inr d) (o .did) })
 

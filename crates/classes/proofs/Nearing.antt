@@ -15,12 +15,12 @@ use Rattle.runs.specs.Limits.{mostRows}
 use Rattle.meaning.specs.Context.{Row}
 use Rattle.meaning.specs.Equality.{repAt}
 use Rattle.meaning.specs.Formed.{Ordered}
-use Rattle.meaning.specs.Closing.{agree, unite}
+use Rattle.meaning.specs.Closing.{agree}
 use Rattle.meaning.proofs.Closes.{agree-equal}
 use Rattle.runs.specs.Runs.{rowCount, countIn, rowsOf}
 use Rattle.runs.proofs.Saying.{length-rows}
-use Rattle.classes.specs.Steps.{Laid, Seated, Found, Kept, Outcome, Nearer}
-use Rattle.classes.proofs.Merges.{outcome-none, outcome-then, unite-outcome}
+use Rattle.classes.specs.Steps.{merge, Laid, Seated, Found, Kept, Outcome, Nearer}
+use Rattle.classes.proofs.Merges.{outcome-none, outcome-then, merge-outcome}
 use Rattle.classes.proofs.Chains.{SameAt, agree-true}
 
 pub nearer-none : (rows : List Row) (l : List ℕ) → Nearer rows l l
@@ -39,8 +39,8 @@ found-one rows l n i at r h z e t =
     record { bound = h; agrees = λ p q. subst (λ (x : ℕ). agree rows l i x ≡ true) (omega arith) (sym e ∙ t) }
 
 module _ (run : List ℕ) (i at : ℕ) (l m : List ℕ) (hi : i < rowCount run) (found : Found (rowsOf run) l (rowCount run) i at) where
-  pub nearer-unite : (at ≡ 0 → ⊥) → m ≡ unite i (at - 1) l → Nearer (rowsOf run) l m
-  nearer-unite z e = record { outcome = λ eqs ordered kept. rw e (one eqs ordered kept) }
+  pub nearer-merge : (at ≡ 0 → ⊥) → m ≡ merge i (at - 1) l → Nearer (rowsOf run) l m
+  nearer-merge z e = record { outcome = λ eqs ordered kept. rw e (one eqs ordered kept) }
     where
       R : List Row
       R = rowsOf run
@@ -48,13 +48,13 @@ module _ (run : List ℕ) (i at : ℕ) (l m : List ℕ) (hi : i < rowCount run) 
       same : SameAt R l i (at - 1)
       same = agree-true R l i (at - 1) (found .agrees (at - 1) (omega arith))
 
-      one : (eqs : List (ℕ × ℕ)) → Ordered R → Kept R eqs l → Outcome R eqs (Unit {0}) l (unite i (at - 1) l)
+      one : (eqs : List (ℕ × ℕ)) → Ordered R → Kept R eqs l → Outcome R eqs (Unit {0}) l (merge i (at - 1) l)
       one eqs ordered kept =
           let long : length R ≡ rowCount run = length-rows run in
           let a : i < length R = omega arith in
           let b : at - 1 < length R = omega (arith, found .bound) in
-          let o : Outcome R eqs (repAt l i ≡ repAt l (at - 1)) l (unite i (at - 1) l) =
-          unite-outcome R eqs l kept i (at - 1) a b (agree-equal R eqs ordered (repAt l) (kept .so) i (at - 1) a b (same .0) (same .1)) in
+          let o : Outcome R eqs (repAt l i ≡ repAt l (at - 1)) l (merge i (at - 1) l) =
+          merge-outcome R eqs l kept i (at - 1) a b (agree-equal R eqs ordered (repAt l) (kept .so) i (at - 1) a b (same .0) (same .1)) in
           record { kept = o .kept; grown = o .grown; did = ⊎-elim (λ d. inl (d .0, tt)) (λ d. inr d) (o .did) }
 
 -- ---- the rows that met so far, with m others woken
@@ -73,4 +73,4 @@ meeting-next d s z h = record { laid = d .laid; so = nearer-then (d .so) s; few 
 pub meeting-seated : {run l t : List ℕ} {m : ℕ} (i c : ℕ) → Meeting run l t m → i < rowCount run → c ≡ countIn run i → Seated run i c
 meeting-seated i c d h e = record { inside = h; four = omega (arith, d .laid .few i h) }
 
-pub ruleset mine = (needs, nearer-none, nearer-then, found-none, found-one, nearer-unite, meeting-start, meeting-next, meeting-seated)
+pub ruleset mine = (needs, nearer-none, nearer-then, found-none, found-one, nearer-merge, meeting-start, meeting-next, meeting-seated)

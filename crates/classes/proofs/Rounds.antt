@@ -15,14 +15,14 @@ use borrow.Author.Tests.{eqb-true, eqb-false}
 use Rattle.meaning.specs.Context.{Row, termAt, Context, equations, equationsOf, leftAt, rightAt}
 use Rattle.meaning.specs.Equality.{Equal, given, repAt, Promise}
 use Rattle.meaning.specs.Formed.{Fit, Within}
-use Rattle.meaning.specs.Closing.{total, unite, upto, count}
+use Rattle.meaning.specs.Closing.{total, upto, count}
 use Rattle.meaning.proofs.Promised.{closed-representatives}
 use Rattle.meaning.proofs.Closes.{length-count}
 use Rattle.runs.specs.Runs.{rowCount, saidCount, kindIn, leftIn, rightIn, rowsOf, statementsOf, contextOf}
 use Rattle.runs.specs.Limits.{mostRows}
 use Rattle.runs.proofs.Saying.{length-rows}
-use Rattle.classes.specs.Steps.{Laid, stateStep, Kept, Grown, Outcome, Alike, Passed, Nearer}
-use Rattle.classes.proofs.Merges.{kept-start, unite-outcome, unite-joins}
+use Rattle.classes.specs.Steps.{Laid, merge, stateStep, Kept, Grown, Outcome, Alike, Passed, Nearer}
+use Rattle.classes.proofs.Merges.{kept-start, merge-outcome, merge-joins}
 use Rattle.classes.proofs.Pairs.{pairAt, pairsFrom, isEquation, equations-are, pairs-place, pairs-from}
 
 -- the sides of each equation have one representative
@@ -68,13 +68,13 @@ module _ (rows : List Row) (said : List ℕ) (m : ℕ) where
             → Kept rows eqs (stateStep said k l) × Grown (length rows) l (stateStep said k l) × One (stateStep said k l) k
         go false e = rw (e, stateStep) (kept, λ x y hx hy q. q, λ t. absurd (let z : _≡_ {A = ℕ} 0 1 = cc in omega arith))
         go true e =
-            let o : Outcome rows eqs (repAt l (leftIn said k) ≡ repAt l (rightIn said k)) l (unite (leftIn said k) (rightIn said k) l) =
-            unite-outcome rows eqs l kept (leftIn said k) (rightIn said k) (left-row k h e) (right-row k h e) (equation k h e) in
+            let o : Outcome rows eqs (repAt l (leftIn said k) ≡ repAt l (rightIn said k)) l (merge (leftIn said k) (rightIn said k) l) =
+            merge-outcome rows eqs l kept (leftIn said k) (rightIn said k) (left-row k h e) (right-row k h e) (equation k h e) in
             rw (e, stateStep) (
               o .kept,
               o .grown,
               λ t.
-                  unite-joins l (leftIn said k) (rightIn said k) (omega (arith, left-row k h e, kept .long)) (omega (arith, right-row k h e, kept .long)),
+                  merge-joins rows eqs l kept (leftIn said k) (rightIn said k) (left-row k h e) (right-row k h e),
             )
 
     stated-to : (l : List ℕ) → Kept rows eqs l → (k : ℕ) → k ≤ m

@@ -9,14 +9,14 @@ use native.Mathlib.Omega.{arith}
 use lib.ListN.{length}
 use borrow.Author.Needs.{needs}
 use borrow.Author.Tests.{eq-eqb, ne-eqb}
-use Rattle.meaning.specs.Closing.{unite, upto}
+use Rattle.meaning.specs.Closing.{upto}
 use Rattle.runs.specs.Runs.{kindIn, leftIn, rightIn}
-use Rattle.classes.specs.Steps.{stateStep}
+use Rattle.classes.specs.Steps.{merge, stateStep}
 
 module _ (said : List ℕ) (k c : ℕ) (l m : List ℕ) (ec : c ≡ kindIn said k) where
-  pub state-equation : (a b : ℕ) → c ≡ 2 → a ≡ leftIn said k → b ≡ rightIn said k → m ≡ unite a b l → m ≡ stateStep said k l
+  pub state-equation : (a b : ℕ) → c ≡ 2 → a ≡ leftIn said k → b ≡ rightIn said k → m ≡ merge a b l → m ≡ stateStep said k l
   unfolding stateStep
-  state-equation a b e ea eb q = q ∙ rw (eq-eqb (kindIn said k) 2 (sym ec ∙ e), stateStep) (ap₂ (λ (x y : ℕ). unite x y l) ea eb)
+  state-equation a b e ea eb q = q ∙ rw (eq-eqb (kindIn said k) 2 (sym ec ∙ e), stateStep) (ap₂ (λ (x y : ℕ). merge x y l) ea eb)
 
   pub state-other : (c ≡ 2 → ⊥) → l ≡ stateStep said k l
   unfolding stateStep

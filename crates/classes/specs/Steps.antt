@@ -2,6 +2,7 @@
 --     chains, mostArgs                how many there are of each
 --     Laid, Seated                    rows that have their places
 --     argReps, sameArgs               two rows compared
+--     moveFrom, merge                 one merge
 --     stateStep                       one statement of a pass over the statements
 --     mix, keyOf, Last, Mate, Joined  chains of rows, and the search along one
 --     Kept, Grown, Outcome, Passed    the table between passes, and what a pass does to it
@@ -9,17 +10,17 @@
 --     differenceAt .. apartAt         one statement, as `clash` and `apart` read it
 -- Assumes nothing.
 use mathlib.Core.Bool.{Bool, true, false, not, _&&_, _||_}
-use mathlib.Core.List.{List, [], _∷_, map}
+use mathlib.Core.List.{List, [], _∷_, _++_, map}
 use mathlib.Core.Path.{_≡_}
 use mathlib.Core.Logic.{_⊎_}
 use Prim.Native.Nat.{ℕ, zero, suc, _+_, _*_, _%_, _≤_, _<_}
-use lib.Dec.{eqb}
-use lib.ListN.{length, getD}
+use lib.Dec.{eqb, ltb}
+use lib.ListN.{length, getD, take, drop}
 use Rattle.meaning.specs.Context.{Row, rowAt}
 use Rattle.meaning.specs.Equality.{repAt}
 use Rattle.meaning.specs.Formed.{Ordered}
 use Rattle.meaning.specs.ByTable.{sameList}
-use Rattle.meaning.specs.Closing.{Sofar, total, unite, agree}
+use Rattle.meaning.specs.Closing.{Sofar, move, total, agree}
 use Rattle.runs.specs.Limits.{mostRows, rowSize, argPlaces}
 use Rattle.runs.specs.Runs.{argsFrom, rowCount, countIn, kindIn, leftIn, rightIn}
 
@@ -47,10 +48,24 @@ argReps run t i count = map (repAt t) (argsFrom run (i * rowSize + 2) count)
 unfoldable pub sameArgs : List ℕ → List ℕ → ℕ → ℕ → ℕ → Bool
 sameArgs run t i j count = sameList (argReps run t i count) (argReps run t j count)
 
+-- ---- one merge
+
+-- hi gives way to lo in the places from hi on
+unfoldable pub moveFrom : ℕ → ℕ → List ℕ → List ℕ
+moveFrom lo hi l = take hi l ++ map (move lo hi) (drop hi l)
+
+-- the classes of rows i and j become one, under the lower representative
+unfoldable pub merge : ℕ → ℕ → List ℕ → List ℕ
+merge i j l =
+    elim (ltb (repAt l i) (repAt l j)) [
+      | true ↦ moveFrom (repAt l i) (repAt l j) l
+      | false ↦ moveFrom (repAt l j) (repAt l i) l
+    ]
+
 -- ---- the stated equations
 
 unfoldable pub stateStep : List ℕ → ℕ → List ℕ → List ℕ
-stateStep said k l = elim (eqb (kindIn said k) 2) [ true ↦ unite (leftIn said k) (rightIn said k) l | false ↦ l ]
+stateStep said k l = elim (eqb (kindIn said k) 2) [ true ↦ merge (leftIn said k) (rightIn said k) l | false ↦ l ]
 
 -- ---- chains
 
@@ -80,14 +95,14 @@ pub record Mate (rows : List Row) (l next : List ℕ) (i head at : ℕ) : Type 0
   pub none : (key : ℕ → ℕ) → Nexts key next i → Last key i (key i) head → at ≡ 0
       → (j : ℕ) → j < i → key j ≡ key i → agree rows l i j ≡ false
 
-abbrev pub uniteAt : ℕ → ℕ → List ℕ → List ℕ
-uniteAt i zero l = l
-uniteAt i (suc p) l = unite i p l
+abbrev pub mergeAt : ℕ → ℕ → List ℕ → List ℕ
+mergeAt i zero l = l
+mergeAt i (suc p) l = merge i p l
 
 pub record Joined (rows : List Row) (next : List ℕ) (i head : ℕ) (l m : List ℕ) : Type 0 where
   pub at : ℕ
   pub mate : Mate rows l next i head at
-  pub so : m ≡ uniteAt i at l
+  pub so : m ≡ mergeAt i at l
 
 -- ---- passes
 

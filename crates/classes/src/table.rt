@@ -1,11 +1,13 @@
 // A table of representatives, lent as a run: one number a row.
+use casts::u32_of_u16;
 use casts::usize_of_u16;
 ghost use mathlib.Core.Path.{_≡_};
 ghost use mathlib.Core.List.{map};
 ghost use Prim.Native.Nat.{_≤_};
 ghost use lib.ListN.{length};
 ghost use Rattle.meaning.specs.Equality.{repAt};
-ghost use Rattle.meaning.specs.Closing.{move, total, unite as united, count as numbers};
+ghost use Rattle.meaning.specs.Closing.{move, total, count as numbers};
+ghost use Rattle.classes.specs.Steps.{moveFrom, merge};
 
 // What a table holds at a row, and 0 past its end.
 pub fn at_row(table: &[u16], row: usize) -> u16
@@ -33,8 +35,8 @@ fn moved(lo: u16, hi: u16, x: u16) -> u16
     if x == hi { lo } else { x }
 }
 
-// The class with the representative hi goes to lo.
-fn move_class(table: &mut [u16], lo: u16, hi: u16)
+// Each place that holds hi gets lo.
+fn move_all(table: &mut [u16], lo: u16, hi: u16)
     ensures { λ _. ⌜ now (table .exit) ≡ map (move lo hi) (now (table .entry)) ⌝ }
 {
     let n = table.len();
@@ -45,9 +47,19 @@ fn move_class(table: &mut [u16], lo: u16, hi: u16)
     }
 }
 
+// The class with the representative hi goes to lo. No row before hi is in it, so the places before hi are left out.
+fn move_class(table: &mut [u16], lo: u16, hi: u16)
+    ensures { λ _. ⌜ now (table .exit) ≡ moveFrom lo hi (now (table .entry)) ⌝ }
+{
+    let first = usize_of_u16(hi);
+    if first <= table.len() {
+        move_all(&mut table[first..], lo, hi);
+    }
+}
+
 // The classes of rows i and j become one, under the lower representative.
 pub fn unite(table: &mut [u16], i: usize, j: usize)
-    ensures { λ _. ⌜ now (table .exit) ≡ united i j (now (table .entry)) ⌝ }
+    ensures { λ _. ⌜ now (table .exit) ≡ merge i j (now (table .entry)) ⌝ }
 {
     let a = at_row(table, i);
     let b = at_row(table, j);
@@ -59,15 +71,15 @@ pub fn unite(table: &mut [u16], i: usize, j: usize)
 }
 
 // The sum of the representatives.
-pub fn sum(table: &[u16]) -> usize
+pub fn sum(table: &[u16]) -> u32
     requires { ⌜ length (now table) ≤ 65535 ⌝ }
     ensures { λ r. ⌜ r ≡ total (length (now (table .entry))) (repAt (now (table .entry))) ⌝ }
 {
     let n = table.len();
-    let mut s: usize = 0;
+    let mut s: u32 = 0;
     let mut r: usize = 0;
     while r < n {
-        s += usize_of_u16(table[r]);
+        s += u32_of_u16(table[r]);
         r += 1;
     }
     s

@@ -16,10 +16,9 @@ use runs::limits::ROWS;
 use runs::row_count;
 ghost use mathlib.Core.Path.{_≡_};
 ghost use Prim.Native.Nat.{_<_, _≤_};
-ghost use Rattle.meaning.specs.Closing.{unite as united};
 ghost use Rattle.runs.specs.Limits.{mostRows};
 ghost use Rattle.runs.specs.Runs.{rowCount, rowsOf};
-ghost use Rattle.classes.specs.Steps.{mostArgs, Laid, Seated, Found, Nearer};
+ghost use Rattle.classes.specs.Steps.{merge, mostArgs, Laid, Seated, Found, Nearer};
 
 const ARGS: usize = ROWS * PLACES;
 
@@ -117,7 +116,7 @@ fn wed(
     j: usize,
 ) -> usize
     requires { ⌜ n ≤ mostRows ⌝ }
-    ensures { λ r. ⌜ (now (table .exit) ≡ united i j (now (table .entry))) × (r ≤ mostRows) ⌝ }
+    ensures { λ r. ⌜ (now (table .exit) ≡ merge i j (now (table .entry))) × (r ≤ mostRows) ⌝ }
 {
     let a = usize_of_u16(at_row(table, i));
     let b = usize_of_u16(at_row(table, j));

@@ -1,63 +1,47 @@
--- `classes::table::move_class` meets its contract. The invariant: the first r places are moved.
+-- `classes::table::move_class` meets its contract: the part from the first row of the class on is moved.
 -- Assumes nothing.
-use Prim.Native.Nat.{_-_}
-use Rattle.classes.proofs.Tables.{Moving, mine}
+use borrow.Author.Needs.{needs}
+use Rattle.classes.proofs.Tables.{move-part, mine}
 use Rattle.classes.proofs.table.move_class.Statement.{statement}
 use Rattle.classes.proofs.table.move_class.Tie as tie
 
-abbrev Inv-loop : tie.InvT-loop
-Inv-loop table₀ lo hi n r₀ table r = Moving lo hi n table₀ table r
+usize-of-u16-requires : tie.Need-usize-of-u16-requires
+usize-of-u16-requires c κs = search mine
 
-abbrev μ-loop : tie.MeasureT-loop
-μ-loop table₀ lo hi n r₀ table r = n - r
+mul-move-all : tie.Need-mul-move-all
+mul-move-all c = search mine
 
-loop-holds : tie.Need-loop-holds Inv-loop μ-loop
-loop-holds c = search mine
+sub-move-all : tie.Need-sub-move-all
+sub-move-all c = search mine
 
-mul-moved : tie.Need-mul-moved Inv-loop μ-loop
-mul-moved c = search mine
+part-move-all-start : tie.Need-part-move-all-start
+part-move-all-start c = search mine
 
-slice-read-moved : tie.Need-slice-read-moved Inv-loop μ-loop
-slice-read-moved c = search mine
+part-move-all-end : tie.Need-part-move-all-end
+part-move-all-end c = search mine
 
-moved-requires : tie.Need-moved-requires Inv-loop μ-loop
-moved-requires c κs = search mine
+move-all-requires : tie.Need-move-all-requires
+move-all-requires c κs = search mine
 
-mul-table : tie.Need-mul-table Inv-loop μ-loop
-mul-table c = search mine
-
-slice-write-table : tie.Need-slice-write-table Inv-loop μ-loop
-slice-write-table c = search mine
-
-add-r : tie.Need-add-r Inv-loop μ-loop
-add-r c = search mine
-
-loop-less : tie.Need-loop-less Inv-loop μ-loop
-loop-less c = search mine
-
-loop-again : tie.Need-loop-again Inv-loop μ-loop
-loop-again c = search mine
-
-same-length : tie.Need-same-length Inv-loop μ-loop
+same-length : tie.Need-same-length
 same-length c = search mine
 
-returns : tie.Need-returns Inv-loop μ-loop
-returns c = search mine
+returns : tie.Need-returns
+returns c = search (needs, move-part)
+
+returns-2 : tie.Need-returns-2
+returns-2 c = search mine
 
 pub move-class-spec : {M : Type 1} → statement M
 move-class-spec =
     tie.close
     (tie.spec
-    Inv-loop
-    μ-loop
-    loop-holds
-    mul-moved
-    slice-read-moved
-    moved-requires
-    mul-table
-    slice-write-table
-    add-r
-    loop-less
-    loop-again
+    usize-of-u16-requires
+    mul-move-all
+    sub-move-all
+    part-move-all-start
+    part-move-all-end
+    move-all-requires
     same-length
-    returns)
+    returns
+    returns-2)

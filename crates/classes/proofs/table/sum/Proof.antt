@@ -14,14 +14,14 @@ abbrev μ-loop : tie.MeasureT-loop
 loop-holds : tie.Need-loop-holds Inv-loop μ-loop
 loop-holds c = search mine
 
-mul-usize-of-u16 : tie.Need-mul-usize-of-u16 Inv-loop μ-loop
-mul-usize-of-u16 c = search mine
+mul-u32-of-u16 : tie.Need-mul-u32-of-u16 Inv-loop μ-loop
+mul-u32-of-u16 c = search mine
 
-shared-slice-read-usize-of-u16 : tie.Need-shared-slice-read-usize-of-u16 Inv-loop μ-loop
-shared-slice-read-usize-of-u16 c = search mine
+shared-slice-read-u32-of-u16 : tie.Need-shared-slice-read-u32-of-u16 Inv-loop μ-loop
+shared-slice-read-u32-of-u16 c = search mine
 
-usize-of-u16-requires : tie.Need-usize-of-u16-requires Inv-loop μ-loop
-usize-of-u16-requires c κs = search mine
+u32-of-u16-requires : tie.Need-u32-of-u16-requires Inv-loop μ-loop
+u32-of-u16-requires c κs = search mine
 
 add-s : tie.Need-add-s Inv-loop μ-loop
 add-s c = search mine
@@ -45,9 +45,9 @@ sum-spec =
     Inv-loop
     μ-loop
     loop-holds
-    mul-usize-of-u16
-    shared-slice-read-usize-of-u16
-    usize-of-u16-requires
+    mul-u32-of-u16
+    shared-slice-read-u32-of-u16
+    u32-of-u16-requires
     add-s
     add-r
     loop-less
