@@ -17,10 +17,11 @@ use Rattle.meaning.specs.Equality.{repAt}
 use Rattle.meaning.specs.Formed.{Ordered}
 use Rattle.meaning.specs.Closing.{agree}
 use Rattle.meaning.proofs.Closes.{agree-equal}
-use Rattle.runs.specs.Runs.{rowCount, countIn, rowsOf}
+use Rattle.runs.specs.Runs.{rowCount, rowsOf}
 use Rattle.runs.proofs.Saying.{length-rows}
-use Rattle.classes.specs.Steps.{merge, Laid, Seated, Found, Kept, Outcome, Nearer}
+use Rattle.classes.specs.Steps.{merge, Laid, Found, Kept, Outcome, Nearer}
 use Rattle.classes.proofs.Merges.{outcome-none, outcome-then, merge-outcome}
+use Rattle.classes.proofs.Rows.{seated-own}
 use Rattle.classes.proofs.Chains.{SameAt, agree-true}
 
 pub nearer-none : (rows : List Row) (l : List ℕ) → Nearer rows l l
@@ -70,7 +71,4 @@ meeting-start run l m laid h = record { laid = laid; so = nearer-none _ l; few =
 pub meeting-next : {run l t u : List ℕ} {m k : ℕ} → Meeting run l t m → Nearer (rowsOf run) t u → length u ≡ length t → k ≤ mostRows → Meeting run l u k
 meeting-next d s z h = record { laid = d .laid; so = nearer-then (d .so) s; few = h; stays = z ∙ d .stays }
 
-pub meeting-seated : {run l t : List ℕ} {m : ℕ} (i c : ℕ) → Meeting run l t m → i < rowCount run → c ≡ countIn run i → Seated run i c
-meeting-seated i c d h e = record { inside = h; four = omega (arith, d .laid .few i h) }
-
-pub ruleset mine = (needs, nearer-none, nearer-then, found-none, found-one, nearer-merge, meeting-start, meeting-next, meeting-seated)
+pub ruleset mine = (needs, nearer-none, nearer-then, found-none, found-one, nearer-merge, meeting-start, meeting-next, seated-own)

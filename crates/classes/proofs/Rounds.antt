@@ -21,7 +21,7 @@ use Rattle.meaning.proofs.Closes.{length-count}
 use Rattle.runs.specs.Runs.{rowCount, saidCount, kindIn, leftIn, rightIn, rowsOf, statementsOf, contextOf}
 use Rattle.runs.specs.Limits.{mostRows}
 use Rattle.runs.proofs.Saying.{length-rows}
-use Rattle.classes.specs.Steps.{Laid, merge, stateStep, Kept, Grown, Outcome, Alike, Passed, Nearer}
+use Rattle.classes.specs.Steps.{Laid, merge, stateStep, Kept, Grown, Outcome, Alike, Pass, PassOn}
 use Rattle.classes.proofs.Merges.{kept-start, merge-outcome, merge-joins}
 use Rattle.classes.proofs.Pairs.{pairAt, pairsFrom, isEquation, equations-are, pairs-place, pairs-from}
 
@@ -134,10 +134,7 @@ pub record Rounding (run said l t : List ℕ) (old : ℕ) : Type 0 where
   pub small : length t ≤ mostRows
   pub stays : length t ≡ length l
 
-pub start-fits-then : (run l t u : List ℕ) → Laid run → l ≡ count (rowCount run) 0 → length t ≡ length l → length u ≡ length t → length u ≤ 65535
-start-fits-then run l t u laid e h k = omega (arith, laid .room, ap length e, length-count (rowCount run) 0)
-
-pub start-fits : (run l t : List ℕ) → Laid run → l ≡ count (rowCount run) 0 → length t ≡ length l → length t ≤ 65535
+pub start-fits : (run l t : List ℕ) → Laid run → l ≡ count (rowCount run) 0 → length t ≡ length l → length t ≤ mostRows
 start-fits run l t laid e h = omega (arith, laid .room, ap length e, length-count (rowCount run) 0)
 
 module _ (run said l t : List ℕ) (laid : Laid run) (fit : Fit (contextOf run said)) (el : l ≡ count (rowCount run) 0) where
@@ -165,7 +162,7 @@ module _ (run said l t : List ℕ) (laid : Laid run) (fit : Fit (contextOf run s
       w : Kept R E t × Met E t
       w = rw (et, equations-are said) (stated-joins R said (saidCount said) (subst (Within (length R)) (equations-are said) (fit .within)) l start)
 
-module _ {run said k l u : List ℕ} {old fresh : ℕ} (r : Rounding run said k l old) (passed : Passed (rowsOf run) l u) (es : fresh ≡ total (length u) (repAt u)) where
+module _ {run said k l u : List ℕ} {old fresh : ℕ} (r : Rounding run said k l old) (p : Pass (rowsOf run) l u fresh) where
   abbrev R′ : List Row
   R′ = rowsOf run
 
@@ -173,7 +170,7 @@ module _ {run said k l u : List ℕ} {old fresh : ℕ} (r : Rounding run said k 
   E′ = equationsOf (statementsOf said)
 
   outcome : Outcome R′ E′ (Alike R′ (length R′) l) l u
-  outcome = passed .outcome E′ (r .fit .ordered) (r .kept)
+  outcome = p .passed .outcome E′ (r .fit .ordered) (r .kept)
 
   -- equations that are met stay so
   met-then : (v x : List ℕ) → Grown (length R′) v x → Met E′ v → Met E′ x
@@ -198,17 +195,17 @@ module _ {run said k l u : List ℕ} {old fresh : ℕ} (r : Rounding run said k 
       }
 
   pub rounding-next : Rounding run said k u fresh
-  rounding-next = step (outcome .kept) (met-then l u (outcome .grown) (r .met)) es
+  rounding-next = step (outcome .kept) (met-then l u (outcome .grown) (r .met)) (p .sum)
 
   pub rounding-ends : fresh ≡ old → Promise (contextOf run said) (rowCount run) u
   rounding-ends e =
       met-promise (contextOf run said) (r .fit) (rowCount run) (length-rows run) u (outcome .kept) (met-then l u (outcome .grown) (r .met))
-      (⊎-elim (λ w. subst (Alike R′ (length R′)) (sym (w .0)) (w .1)) (λ w. absurd (omega (arith, w, sums (r .kept), sums (outcome .kept), r .so))) (outcome .did))
+      (⊎-elim (λ w. subst (Alike R′ (length R′)) (sym (w .0)) (w .1)) (λ w. absurd (omega (arith, w, sums (r .kept), sums (outcome .kept), r .so, p .sum))) (outcome .did))
 
   -- a pass that changed something, and the merges that follow
-  module _ {v : List ℕ} {last : ℕ} (nearer : Nearer R′ u v) (el : last ≡ total (length v) (repAt v)) where
+  module _ {v : List ℕ} {last : ℕ} (q : PassOn R′ u v last) where
     then : Outcome R′ E′ (Unit {0}) u v
-    then = nearer .outcome E′ (r .fit .ordered) (outcome .kept)
+    then = q .nearer .outcome E′ (r .fit .ordered) (outcome .kept)
 
     falls : total (length R′) (repAt v) ≤ total (length R′) (repAt u)
     falls =
@@ -217,17 +214,28 @@ module _ {run said k l u : List ℕ} {old fresh : ℕ} (r : Rounding run said k 
 
     pub rounding-less : (fresh ≡ old → ⊥) → last < old
     rounding-less d =
-        ⊎-elim (λ w. absurd (d (es ∙ ap (λ (x : List ℕ). total (length x) (repAt x)) (w .0) ∙ sym (r .so))))
-        (λ w. omega (arith, w, sums (r .kept), sums (outcome .kept), sums (then .kept), r .so, falls)) (outcome .did)
+        ⊎-elim (λ w. absurd (d (p .sum ∙ ap (λ (x : List ℕ). total (length x) (repAt x)) (w .0) ∙ sym (r .so))))
+        (λ w. omega (arith, w, sums (r .kept), sums (outcome .kept), sums (then .kept), r .so, p .sum, q .sum, falls)) (outcome .did)
 
     pub rounding-again : Rounding run said k v last
-    rounding-again = step (then .kept) (met-then u v (then .grown) (met-then l u (outcome .grown) (r .met))) el
+    rounding-again = step (then .kept) (met-then u v (then .grown) (met-then l u (outcome .grown) (r .met))) (q .sum)
 
--- from where the loop starts
-pub rounding-enter : {run said k l : List ℕ} {old : ℕ} → Rounding run said k l old → Rounding run said l l old
-rounding-enter r = record { fit = r .fit; laid = r .laid; kept = r .kept; met = r .met; so = r .so; small = r .small; stays = refl }
+-- before the loop: the equations are joined, and one pass is made
+module _ (run said l t u : List ℕ) (start old : ℕ) (laid : Laid run) (fit : Fit (contextOf run said)) (el : l ≡ count (rowCount run) 0)
+    (et : t ≡ upto (saidCount said) (stateStep said) l) (es : start ≡ total (length t) (repAt t)) (p : Pass (rowsOf run) t u old) where
+  first : Rounding run said l t start
+  first = rounding-start run said l t laid fit el start et es
 
-pub rounding-fits : {run said l t : List ℕ} {old : ℕ} (u : List ℕ) → Rounding run said l t old → length u ≡ length t → length u ≤ 65535
+  pub first-ends : old ≡ start → Promise (contextOf run said) (rowCount run) u
+  first-ends = rounding-ends first p
+
+  pub first-enter : Rounding run said u u old
+  first-enter = let r : Rounding run said l u old = rounding-next first p in record { fit = fit; laid = laid; kept = r .kept; met = r .met; so = r .so; small = r .small; stays = refl }
+
+pub rounding-fits : {run said l t : List ℕ} {old : ℕ} (u : List ℕ) → Rounding run said l t old → length u ≡ length t → length u ≤ mostRows
 rounding-fits u r e = omega (arith, r .small)
 
-pub ruleset mine = (needs, start-fits, rounding-start, rounding-less, rounding-next, rounding-again, rounding-ends, rounding-fits)
+pub sum-fits : (t u : List ℕ) → length t ≤ mostRows → length u ≡ length t → length u ≤ 65535
+sum-fits t u h e = omega arith
+
+pub ruleset mine = (needs, start-fits, sum-fits, rounding-ends, rounding-fits)

@@ -7,6 +7,7 @@
 --     mix, keyOf, Last, Mate, Joined  chains of rows, and the search along one
 --     Kept, Grown, Outcome, Passed    the table between passes, and what a pass does to it
 --     Found, Nearer                   merges that follow a merge
+--     Pass, PassOn                    a pass with the sum after it
 --     differenceAt .. apartAt         one statement, as `clash` and `apart` read it
 -- Assumes nothing.
 use mathlib.Core.Bool.{Bool, true, false, not, _&&_, _||_}
@@ -140,6 +141,16 @@ pub record Found (rows : List Row) (l : List ℕ) (n i at : ℕ) : Type 0 where
 -- from l to m: what holds of the table goes on to hold, and the sum does not rise
 pub record Nearer (rows : List Row) (l m : List ℕ) : Type 0 where
   pub outcome : (eqs : List (ℕ × ℕ)) → Ordered rows → Kept rows eqs l → Outcome rows eqs (Unit {0}) l m
+
+-- ---- a pass of either kind, and the sum of the representatives after it
+
+pub record Pass (rows : List Row) (l m : List ℕ) (s : ℕ) : Type 0 where
+  pub passed : Passed rows l m
+  pub sum : s ≡ total (length m) (repAt m)
+
+pub record PassOn (rows : List Row) (l m : List ℕ) (s : ℕ) : Type 0 where
+  pub nearer : Nearer rows l m
+  pub sum : s ≡ total (length m) (repAt m)
 
 -- ---- stated differences, by a table
 

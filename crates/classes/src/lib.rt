@@ -20,15 +20,17 @@ use table::number;
 use table::sum;
 use wake::follow;
 ghost use mathlib.Core.Path.{_≡_};
+ghost use Prim.Native.Nat.{_≤_};
+ghost use lib.ListN.{length};
 ghost use Rattle.meaning.specs.Context.{differencesOf};
 ghost use Rattle.meaning.specs.Formed.{Fit};
 ghost use Rattle.meaning.specs.Equality.{repAt, Promise};
 ghost use Rattle.meaning.specs.ByTable.{clashOf, apartBy};
 ghost use Rattle.meaning.specs.Closing.{count as numbers};
-ghost use Rattle.runs.specs.Runs.{rowCount, statementsOf, contextOf};
+ghost use Rattle.runs.specs.Runs.{rowCount, rowsOf, statementsOf, contextOf};
 ghost use Rattle.runs.specs.Limits.{mostRows, mostStatements};
 ghost use Rattle.classes.specs.Claims.{Closes, clashing};
-ghost use Rattle.classes.specs.Steps.{Laid};
+ghost use Rattle.classes.specs.Steps.{Laid, Pass, PassOn};
 
 pub enum Answer {
     Closed,
@@ -46,6 +48,26 @@ pub struct Classes {
     pub table: [u16; ROWS],
 }
 
+// A pass over the rows. The answer is the sum of the representatives after it.
+fn pass(rows: &[u16], table: &mut [u16]) -> u32
+    requires { ⌜ Laid (now rows) ⌝ }
+    requires { ⌜ length (now table) ≤ mostRows ⌝ }
+    ensures { λ r. ⌜ Pass (rowsOf (now (rows .entry))) (now (table .entry)) (now (table .exit)) r ⌝ }
+{
+    join_rows(rows, table);
+    sum(table)
+}
+
+// The same for a pass that follows up its merges.
+fn pass_on(rows: &[u16], table: &mut [u16]) -> u32
+    requires { ⌜ Laid (now rows) ⌝ }
+    requires { ⌜ length (now table) ≤ mostRows ⌝ }
+    ensures { λ r. ⌜ PassOn (rowsOf (now (rows .entry))) (now (table .entry)) (now (table .exit)) r ⌝ }
+{
+    follow(rows, table);
+    sum(table)
+}
+
 // The stated equations, and then passes over the rows till the sum of the representatives stays. Rows that have one representative keep it
 // in common, so the equations are joined once. Most ledgers are done after a pass or two; where they are not, each further pass comes after
 // one that follows up its merges.
@@ -57,19 +79,16 @@ fn settle(rows: &[u16], said: &[u16], table: &mut [u16])
 {
     join_stated(said, table);
     let start = sum(table);
-    join_rows(rows, table);
-    let mut old = sum(table);
+    let mut old = pass(rows, table);
     if old == start {
         return;
     }
     loop {
-        join_rows(rows, table);
-        let fresh = sum(table);
+        let fresh = pass(rows, table);
         if fresh == old {
             return;
         }
-        follow(rows, table);
-        old = sum(table);
+        old = pass_on(rows, table);
     }
 }
 

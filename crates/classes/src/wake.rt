@@ -198,6 +198,24 @@ fn drain(
     }
 }
 
+// Row i meets the row that is found for it, stands over the classes of its arguments, and what was woken meets.
+fn visit(
+    rows: &[u16],
+    table: &mut [u16],
+    heads: &mut [u16; CHAINS],
+    links: &mut [u16; LINKS],
+    woken: &mut [u16; ROWS],
+    i: usize,
+)
+    requires { ⌜ Laid (now rows) ⌝ }
+    requires { ⌜ i < rowCount (now rows) ⌝ }
+    ensures { λ _. ⌜ Nearer (rowsOf (now (rows .entry))) (now (table .entry)) (now (table .exit)) ⌝ }
+{
+    let n = meet(rows, table, heads, links, woken, 0, i);
+    stand(rows, table, links, i, count_in(rows, i));
+    drain(rows, table, heads, links, woken, n);
+}
+
 // A pass over the rows in which each merge is followed up at once.
 pub fn follow(rows: &[u16], table: &mut [u16])
     requires { ⌜ Laid (now rows) ⌝ }
@@ -209,9 +227,7 @@ pub fn follow(rows: &[u16], table: &mut [u16])
     let mut woken = no_rows();
     let mut i: usize = 0;
     while i < all {
-        let n = meet(rows, table, &mut heads, &mut links, &mut woken, 0, i);
-        stand(rows, table, &mut links, i, count_in(rows, i));
-        drain(rows, table, &mut heads, &mut links, &mut woken, n);
+        visit(rows, table, &mut heads, &mut links, &mut woken, i);
         i += 1;
     }
 }

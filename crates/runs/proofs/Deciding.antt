@@ -3,7 +3,7 @@
 --     decides-not, decides-one           what a false answer says; two answers are equal
 --     every-none .. every-done           nothing so far, one place more, and the loop's two answers
 --     checked-start .. checked-done      the same of a loop whose bound is a count that was read
---     placed-many .. pattern-symbol      the answers of each test
+--     placed-many .. symbol-decides      the answers of each test
 -- Assumes nothing.
 use mathlib.Core.Bool.{Bool, true, false, not}
 use mathlib.Core.Path.{_≡_, refl, sym, _∙_}
@@ -107,16 +107,16 @@ pub variable-large : (x h a : ℕ) → h ≡ x → a ≡ h → mostVariables ≤
 variable-large x h a e f l = decides-false (λ s. omega arith)
 
 module _ (patterns : List ℕ) (i : ℕ) (r : Bool) where
-  pub pattern-variable : (k : ℕ) → k ≡ patternKindIn patterns i → k ≡ 4 → Decides r (headIn patterns i < mostVariables) → Decides r (PatternAt patterns i)
-  pattern-variable k e f d =
+  pub variable-decides : (k : ℕ) → k ≡ patternKindIn patterns i → k ≡ 4 → Decides r (headIn patterns i < mostVariables) → Decides r (PatternAt patterns i)
+  variable-decides k e f d =
       let is : patternKindIn patterns i ≡ 4 = sym e ∙ f in
       record { holds = λ y. record { variable = λ _. d .holds y; symbol = λ n. absurd (n is) }; sure = λ p. d .sure (p .variable is) }
 
-  pub pattern-symbol : (k n : ℕ) → k ≡ patternKindIn patterns i → (k ≡ 4 → ⊥) → n ≡ patternCountIn patterns i → Decides r (PlacedAt patterns (i * patternSize + 3) n i)
+  pub symbol-decides : (k n : ℕ) → k ≡ patternKindIn patterns i → (k ≡ 4 → ⊥) → n ≡ patternCountIn patterns i → Decides r (PlacedAt patterns (i * patternSize + 3) n i)
       → Decides r (PatternAt patterns i)
-  pattern-symbol k n e other c d =
+  symbol-decides k n e other c d =
       let not-variable : patternKindIn patterns i ≡ 4 → ⊥ = λ q. other (e ∙ q) in
       let d′ : Decides r (PlacedAt patterns (i * patternSize + 3) (patternCountIn patterns i) i) = rw c at d in
       record { holds = λ y. record { variable = λ q. absurd (not-variable q); symbol = λ _. d′ .holds y }; sure = λ p. d′ .sure (p .symbol not-variable) }
 
-pub ruleset mine = (needs, every-none, placed-many, placed-late, placed-next, placed-read, placed-done, checked-start, checked-not, checked-so, checked-done, named-left, named-right, variable-large, pattern-variable, pattern-symbol)
+pub ruleset mine = (needs, every-none, placed-many, placed-late, placed-next, placed-read, placed-done, checked-start, checked-not, checked-so, checked-done, named-left, named-right, variable-large, variable-decides, symbol-decides)

@@ -1,8 +1,8 @@
--- Well-formedness of what runs say is well-formedness of each place of the runs.
---     fit-rows, fit-said            from a well-formed context to its places
---     fit-patterns, fit-literals    from a well-formed rule to its places
---     fit-wider                     what fits limits fits higher ones
---     fit-many .. clause-named      the answers of the two tests
+-- Well-formedness of the context that runs say is well-formedness of each place of the runs.
+--     fit-rows, fit-said          from a well-formed context to its places
+--     fit-wider                   what fits limits fits higher ones
+--     fit-many .. fit-named       the answers of the test
+--     placed-below, named-pair    one place, as a row or a pattern row has it, and as a statement or a literal has it
 -- Assumes nothing.
 use mathlib.Core.Bool.{Bool, true, false, not}
 use mathlib.Core.List.{List, [], _∷_}
@@ -10,19 +10,19 @@ use mathlib.Core.Path.{_≡_, refl}
 use Prim.Native.Nat.{ℕ, zero, suc, _+_, _*_, _≤_, _<_}
 use native.Mathlib.Omega.{arith}
 use borrow.Author.Needs.{needs}
-use borrow.Author.Tests.{not-true, not-false, eqb-true, eqb-false}
+use borrow.Author.Tests.{not-true, not-false}
 use lib.Dec.{eqb}
 use lib.ListN.{length, getD}
 use Rattle.meaning.specs.Context.{Statement, same, differ, equationsOf, differencesOf}
-use Rattle.meaning.specs.Rules.{Pattern, variable, Literal, equal, Below}
-use Rattle.meaning.specs.Formed.{Ordered, Within, Placed, AllPlaced, Names, NamesAll}
-use Rattle.meaning.specs.Columns.{statementOf, literalOf}
+use Rattle.meaning.specs.Rules.{Below}
+use Rattle.meaning.specs.Formed.{Ordered, Within}
+use Rattle.meaning.specs.Columns.{statementOf}
 use Rattle.meaning.proofs.Lists.{below-at}
-use Rattle.runs.specs.Limits.{mostPatterns, mostLiterals, rowSize, patternSize, argPlaces}
-use Rattle.runs.specs.Runs.{argsFrom, rowCount, saidCount, patternCount, literalCount, countIn, kindIn, leftIn, rightIn, patternKindIn, patternCountIn, patternArgsIn, patternIn, signIn, rowsOf, statementsOf, patternsOf, literalsOf}
-use Rattle.runs.specs.Fit.{Decides, Every, PlacedAt, RowAt, NamedAt, PatternAt, FitContext, FitClause}
+use Rattle.runs.specs.Limits.{rowSize, argPlaces}
+use Rattle.runs.specs.Runs.{argsFrom, rowCount, saidCount, countIn, kindIn, leftIn, rightIn, rowsOf, statementsOf}
+use Rattle.runs.specs.Fit.{Decides, Every, PlacedAt, RowAt, NamedAt, FitContext}
 use Rattle.runs.proofs.Deciding.{decides-false, decides-not}
-use Rattle.runs.proofs.Saying.{length-rows, length-statements, length-patterns, length-literals, rows-at, statements-at, patterns-at, literals-at, arg-at, args-fewer, args-length, pattern-variable, pattern-symbol}
+use Rattle.runs.proofs.Saying.{length-rows, length-statements, rows-at, statements-at, arg-at, args-fewer, args-length}
 
 -- ---- arguments
 
@@ -31,13 +31,13 @@ below-of n [] h = tt
 below-of n (a ∷ l) h = (h 0 (omega arith), below-of n l (λ k b. h (suc k) (omega arith)))
 
 module _ (run : List ℕ) (at count i : ℕ) where
-  placed-below : PlacedAt run at count i → Below i (argsFrom run at count)
+  pub placed-below : PlacedAt run at count i → Below i (argsFrom run at count)
   placed-below p =
       below-of i (argsFrom run at count) (λ k b.
       let h : k < count = omega (arith, args-fewer run at count) in
       rw (arg-at run at count k h (p .few)) (p .earlier .each k h))
 
-  below-placed : at + argPlaces ≤ length run → count ≤ argPlaces → Below i (argsFrom run at count) → PlacedAt run at count i
+  pub below-placed : at + argPlaces ≤ length run → count ≤ argPlaces → Below i (argsFrom run at count) → PlacedAt run at count i
   below-placed room few b =
       record {
         few = few;
@@ -119,7 +119,7 @@ sided-statement n kind p q s = go (eqb kind 2) refl
     go true e = rw (e, statementOf) at s
     go false e = rw (e, statementOf) at s
 
-named-pair : (said : List ℕ) (n k : ℕ) → (leftIn said k < n) × (rightIn said k < n) → NamedAt said n k
+pub named-pair : (said : List ℕ) (n k : ℕ) → (leftIn said k < n) × (rightIn said k < n) → NamedAt said n k
 named-pair said n k p = record { left = p .0; right = p .1 }
 
 module _ (said : List ℕ) (n : ℕ) where
@@ -191,135 +191,4 @@ module _ (w m : ℕ) (rows said : List ℕ) where
             sure = λ f. d′ .sure (fit-said f);
           }
 
--- ---- pattern rows
-
-all-placed-of : (i : ℕ) (ps : List Pattern) → ((k : ℕ) → k < length ps → Placed (i + k) (getD ps k (variable 0))) → AllPlaced i ps
-all-placed-of i [] h = tt
-all-placed-of i (p ∷ ps) h =
-    (let e : i + 0 ≡ i = omega arith in rw e at (h 0 (omega arith)), all-placed-of (suc i) ps (λ k b. let e : suc i + k ≡ i + suc k = omega arith in rw e (h (suc k) (omega arith))))
-
-all-placed-at : (i : ℕ) (ps : List Pattern) → AllPlaced i ps → (k : ℕ) → k < length ps → Placed (i + k) (getD ps k (variable 0))
-all-placed-at i [] a k h = absurd (omega arith)
-all-placed-at i (p ∷ ps) a zero h = let e : i + 0 ≡ i = omega arith in rw e (a .0)
-all-placed-at i (p ∷ ps) a (suc k) h = let e : suc i + k ≡ i + suc k = omega arith in rw e at (all-placed-at (suc i) ps (a .1) k (omega arith))
-
-module _ (patterns : List ℕ) where
-  pattern-placed : (i : ℕ) → PatternAt patterns i → Placed i (patternIn patterns i)
-  pattern-placed i p = go (eqb (patternKindIn patterns i) 4) refl
-    where
-      go : (b : Bool) → eqb (patternKindIn patterns i) 4 ≡ b → Placed i (patternIn patterns i)
-      go true q = rw (pattern-variable patterns i (eqb-true (patternKindIn patterns i) 4 q)) tt
-      go false q =
-          let n : patternKindIn patterns i ≡ 4 → ⊥ = eqb-false (patternKindIn patterns i) 4 q in
-          rw (pattern-symbol patterns i n) (placed-below patterns (i * patternSize + 3) (patternCountIn patterns i) i (p .symbol n))
-
-  patterns-placed : Every (patternCount patterns) (PatternAt patterns) → AllPlaced 0 (patternsOf patterns)
-  patterns-placed e =
-      all-placed-of 0 (patternsOf patterns) (λ i h.
-      let b : i < patternCount patterns = omega (arith, length-patterns patterns) in
-      let z : 0 + i ≡ i = omega arith in
-      rw (patterns-at patterns i (variable 0) b, z) (pattern-placed i (e .each i b)))
-
-  placed-symbol : AllPlaced 0 (patternsOf patterns) → (i : ℕ) → i < patternCount patterns → (patternKindIn patterns i ≡ 4 → ⊥)
-      → Below i (patternArgsIn patterns i)
-  placed-symbol a i h n =
-      let z : 0 + i ≡ i = omega arith in
-      rw (z, pattern-symbol patterns i n) at
-      (rw (patterns-at patterns i (variable 0) h) at (all-placed-at 0 (patternsOf patterns) a i (omega (arith, length-patterns patterns))))
-
--- ---- literals
-
-names-all-of : (n : ℕ) (l : List Literal) → ((j : ℕ) → j < length l → Names n (getD l j (equal 0 0))) → NamesAll n l
-names-all-of n [] h = tt
-names-all-of n (x ∷ l) h = (h 0 (omega arith), names-all-of n l (λ j b. h (suc j) (omega arith)))
-
-names-all-at : (n : ℕ) (l : List Literal) → NamesAll n l → (j : ℕ) → j < length l → Names n (getD l j (equal 0 0))
-names-all-at n [] a j h = absurd (omega arith)
-names-all-at n (x ∷ l) a zero h = a .0
-names-all-at n (x ∷ l) a (suc j) h = names-all-at n l (a .1) j (omega arith)
-
-literal-names : (n sign p q : ℕ) → p < n → q < n → Names n (literalOf sign p q)
-unfolding literalOf
-literal-names n sign p q h l = go (eqb sign 6) refl
-  where
-    go : (b : Bool) → eqb sign 6 ≡ b → Names n (literalOf sign p q)
-    go true e = rw (e, literalOf) (h, l)
-    go false e = rw (e, literalOf) (h, l)
-
-names-literal : (n sign p q : ℕ) → Names n (literalOf sign p q) → (p < n) × (q < n)
-unfolding literalOf
-names-literal n sign p q s = go (eqb sign 6) refl
-  where
-    go : (b : Bool) → eqb sign 6 ≡ b → (p < n) × (q < n)
-    go true e = rw (e, literalOf) at s
-    go false e = rw (e, literalOf) at s
-
-module _ (literals : List ℕ) (n : ℕ) where
-  literals-named : Every (literalCount literals) (NamedAt literals n) → NamesAll n (literalsOf literals)
-  literals-named e =
-      names-all-of n (literalsOf literals) (λ k h.
-      let b : k < literalCount literals = omega (arith, length-literals literals) in
-      rw (literals-at literals k (equal 0 0) b)
-      (literal-names n (signIn literals k) (leftIn literals k) (rightIn literals k) (e .each k b .left) (e .each k b .right)))
-
-  named-literals : NamesAll n (literalsOf literals) → Every (literalCount literals) (NamedAt literals n)
-  named-literals a =
-      record {
-        each = λ k h.
-            named-pair literals n k
-            (names-literal n (signIn literals k) (leftIn literals k) (rightIn literals k)
-            (rw (literals-at literals k (equal 0 0) h) at (names-all-at n (literalsOf literals) a k (omega (arith, length-literals literals)))));
-      }
-
--- ---- the rule
-
-module _ (patterns literals : List ℕ) where
-  clause-fit : patternCount patterns ≤ mostPatterns → literalCount literals ≤ mostLiterals → Every (patternCount patterns) (PatternAt patterns)
-      → Every (literalCount literals) (NamedAt literals (patternCount patterns)) → FitClause patterns literals
-  clause-fit p l e n =
-      record {
-        patterns-few = p;
-        literals-few = l;
-        variables-few = λ i h. e .each i h .variable;
-        counts-few = λ i h q. e .each i h .symbol q .few;
-        placed = patterns-placed patterns e;
-        named = literals-named literals (patternCount patterns) n;
-      }
-
-  module _ (f : FitClause patterns literals) where
-    pub fit-patterns : Every (patternCount patterns) (PatternAt patterns)
-    fit-patterns =
-        record {
-          each = λ i h.
-              record {
-                variable = f .variables-few i h;
-                symbol = λ n.
-                    below-placed patterns (i * patternSize + 3) (patternCountIn patterns i) i (omega arith) (f .counts-few i h n)
-                    (placed-symbol patterns (f .placed) i h n);
-              };
-        }
-
-    pub fit-literals : Every (literalCount literals) (NamedAt literals (patternCount patterns))
-    fit-literals = named-literals literals (patternCount patterns) (f .named)
-
-  module _ (n : ℕ) (e : n ≡ patternCount patterns) where
-    pub clause-many : mostPatterns < n → Decides false (FitClause patterns literals)
-    clause-many h = decides-false (λ f. omega (arith, f .patterns-few))
-
-    pub clause-unplaced : (r : Bool) → Decides r (Every (patternCount patterns) (PatternAt patterns)) → not r ≡ true → Decides false (FitClause patterns literals)
-    clause-unplaced r d q = decides-false (λ f. decides-not d (not-true r q) (fit-patterns f))
-
-    module _ (k : ℕ) (s : k ≡ literalCount literals) where
-      pub clause-much : mostLiterals < k → Decides false (FitClause patterns literals)
-      clause-much h = decides-false (λ f. omega (arith, f .literals-few))
-
-      pub clause-named : (q r : Bool) → n ≤ mostPatterns → k ≤ mostLiterals → Decides q (Every (patternCount patterns) (PatternAt patterns)) → not q ≡ false
-          → Decides r (Every (literalCount literals) (NamedAt literals n)) → Decides r (FitClause patterns literals)
-      clause-named q r hp hl p t d =
-          let d′ : Decides r (Every (literalCount literals) (NamedAt literals (patternCount patterns))) = rw e at d in
-          record {
-            holds = λ y. clause-fit (omega arith) (omega arith) (p .holds (not-false q t)) (d′ .holds y);
-            sure = λ f. d′ .sure (fit-literals f);
-          }
-
-pub ruleset mine = (needs, fit-many, fit-much, fit-unplaced, fit-named, clause-many, clause-much, clause-unplaced, clause-named)
+pub ruleset mine = (needs, fit-many, fit-much, fit-unplaced, fit-named)

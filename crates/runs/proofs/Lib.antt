@@ -2,4 +2,5 @@ pub mod Controls
 pub mod Deciding
 pub mod Formed
 pub mod Growing
+pub mod Ruled
 pub mod Saying

@@ -1,7 +1,8 @@
--- `classes::settle` meets its contract. The invariant: what holds of the table from the start to the end, the sides of each equation have one representative, and `old` is the sum, which is also the measure.
+-- `classes::settle` meets its contract. The invariant: what holds of the table from the start to the end, the sides of each equation have one
+-- representative, and `old` is the sum, which is also the measure.
 -- Assumes nothing.
-use Rattle.classes.proofs.Rounds.{Rounding, rounding-start, rounding-next, rounding-ends, rounding-less, rounding-again, rounding-enter, start-fits-then, mine}
 use borrow.Author.Needs.{needs}
+use Rattle.classes.proofs.Rounds.{Rounding, first-ends, first-enter, rounding-less, rounding-again, mine}
 use Rattle.classes.proofs.settle.Statement.{statement}
 use Rattle.classes.proofs.settle.Tie as tie
 
@@ -17,69 +18,53 @@ join-stated-requires c κs = search mine
 sum-requires : tie.Need-sum-requires Inv-loop μ-loop
 sum-requires c κs = search mine
 
-join-rows-requires : tie.Need-join-rows-requires Inv-loop μ-loop
-join-rows-requires c κs = search mine
-
-sum-requires-2 : tie.Need-sum-requires-2 Inv-loop μ-loop
-sum-requires-2 c κs = search (needs, start-fits-then)
+pass-requires : tie.Need-pass-requires Inv-loop μ-loop
+pass-requires c κs = search mine
 
 same-length : tie.Need-same-length Inv-loop μ-loop
 same-length c = search mine
 
 returns : tie.Need-returns Inv-loop μ-loop
 returns c =
-    let fresh = c .before in
-    let passed = fresh .before .before .before .before in
-    let start = passed .before .before in
-    let stated = start .before .before .before .before in
+    let passed = c .before .before .before in
+    let summed = passed .before .before in
+    let stated = summed .before .before .before .before in
     let pre = stated .before .before .before .before .before .pre in
-    rounding-ends (rounding-start _ _ _ _ (pre .0) (pre .1 .0) (pre .1 .1) _ (stated .join-stated .ensures) (start .sum .ensures)) (passed .join-rows .ensures) (fresh .sum2 .ensures) (search needs)
+    first-ends _ _ _ _ _ _ _ (pre .0) (pre .1 .0) (pre .1 .1) (stated .join-stated .ensures) (summed .sum .ensures) (passed .pass .ensures) (search needs)
 
 loop-holds : tie.Need-loop-holds Inv-loop μ-loop
 loop-holds c =
-    let fresh = c .before in
-    let passed = fresh .before .before .before .before in
-    let start = passed .before .before in
-    let stated = start .before .before .before .before in
+    let passed = c .before .before .before in
+    let summed = passed .before .before in
+    let stated = summed .before .before .before .before in
     let pre = stated .before .before .before .before .before .pre in
-    rounding-enter (rounding-next (rounding-start _ _ _ _ (pre .0) (pre .1 .0) (pre .1 .1) _ (stated .join-stated .ensures) (start .sum .ensures)) (passed .join-rows .ensures) (fresh .sum2 .ensures))
+    first-enter _ _ _ _ _ _ _ (pre .0) (pre .1 .0) (pre .1 .1) (stated .join-stated .ensures) (summed .sum .ensures) (passed .pass .ensures)
 
-join-rows-requires-2 : tie.Need-join-rows-requires-2 Inv-loop μ-loop
-join-rows-requires-2 c κs = search mine
-
-sum-requires-3 : tie.Need-sum-requires-3 Inv-loop μ-loop
-sum-requires-3 c κs = search mine
+pass-requires-2 : tie.Need-pass-requires-2 Inv-loop μ-loop
+pass-requires-2 c κs = search mine
 
 same-length-2 : tie.Need-same-length-2 Inv-loop μ-loop
 same-length-2 c = search mine
 
 returns-2 : tie.Need-returns-2 Inv-loop μ-loop
-returns-2 c =
-    let fresh = c .before in
-    let passed = fresh .before .before .before .before in
-    rounding-ends (passed .before .before .loop .inv) (passed .join-rows2 .ensures) (fresh .sum3 .ensures) (search needs)
+returns-2 c = search mine
 
-follow-requires : tie.Need-follow-requires Inv-loop μ-loop
-follow-requires c κs = search mine
-
-sum-requires-4 : tie.Need-sum-requires-4 Inv-loop μ-loop
-sum-requires-4 c κs = search mine
+pass-on-requires : tie.Need-pass-on-requires Inv-loop μ-loop
+pass-on-requires c κs = search mine
 
 loop-less : tie.Need-loop-less Inv-loop μ-loop
 loop-less c =
-    let followed = c .before .before .before .before in
+    let followed = c .before .before in
     let test = followed .before .before in
-    let fresh = test .before in
-    let passed = fresh .before .before .before .before in
-    rounding-less (passed .before .before .loop .inv) (passed .join-rows2 .ensures) (fresh .sum3 .ensures) (followed .follow .ensures) (c .sum4 .ensures) (test .if2 .left)
+    let passed = test .before .before .before in
+    rounding-less (passed .before .before .loop .inv) (passed .pass2 .ensures) (followed .pass-on .ensures) (test .if2 .left)
 
 loop-again : tie.Need-loop-again Inv-loop μ-loop
 loop-again c =
-    let followed = c .before .before .before .before in
+    let followed = c .before .before in
     let test = followed .before .before in
-    let fresh = test .before in
-    let passed = fresh .before .before .before .before in
-    rounding-again (passed .before .before .loop .inv) (passed .join-rows2 .ensures) (fresh .sum3 .ensures) (followed .follow .ensures) (c .sum4 .ensures)
+    let passed = test .before .before .before in
+    rounding-again (passed .before .before .loop .inv) (passed .pass2 .ensures) (followed .pass-on .ensures)
 
 pub settle-spec : {M : Type 1} → statement M
 settle-spec =
@@ -89,16 +74,13 @@ settle-spec =
     μ-loop
     join-stated-requires
     sum-requires
-    join-rows-requires
-    sum-requires-2
+    pass-requires
     same-length
     returns
     loop-holds
-    join-rows-requires-2
-    sum-requires-3
+    pass-requires-2
     same-length-2
     returns-2
-    follow-requires
-    sum-requires-4
+    pass-on-requires
     loop-less
     loop-again)

@@ -1,5 +1,6 @@
 -- `classes::table::unite` meets its contract. The three ways are the two orders of the representatives, and that they are one.
 -- Assumes nothing.
+use borrow.Author.Needs.{needs}
 use Rattle.classes.proofs.Tables.{merge-same, mine}
 use Rattle.classes.proofs.table.unite.Statement.{statement}
 use Rattle.classes.proofs.table.unite.Tie as tie
@@ -32,7 +33,7 @@ same-length-3 : tie.Need-same-length-3
 same-length-3 c = search mine
 
 returns-3 : tie.Need-returns-3
-returns-3 c = merge-same _ _ _ _ _ (c .before .before .before .before .at-row .ensures) (c .before .before .at-row2 .ensures) (c .before .if1 .left) (c .if2 .left)
+returns-3 c = search (needs, merge-same)
 
 pub unite-spec : {M : Type 1} → statement M
 unite-spec =

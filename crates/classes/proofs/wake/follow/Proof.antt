@@ -1,8 +1,7 @@
--- `classes::wake::follow` meets its contract. The invariant: the rows that met so far.
+-- `classes::wake::follow` meets its contract. The invariant: the rows that met so far. The measure is how many are left.
 -- Assumes nothing.
-use Rattle.classes.proofs.Nearing.{Meeting, nearer-then, meeting-next, meeting-seated, mine}
-use native.Mathlib.Omega.{arith}
 use Prim.Native.Nat.{_-_}
+use Rattle.classes.proofs.Nearing.{Meeting, mine}
 use Rattle.classes.proofs.wake.follow.Statement.{statement}
 use Rattle.classes.proofs.wake.follow.Tie as tie
 
@@ -27,17 +26,8 @@ no-rows-requires c κs = search mine
 loop-holds : tie.Need-loop-holds Inv-loop μ-loop
 loop-holds c = search mine
 
-meet-requires : tie.Need-meet-requires Inv-loop μ-loop
-meet-requires c κs = (search mine, (search mine, search mine))
-
-count-in-requires : tie.Need-count-in-requires Inv-loop μ-loop
-count-in-requires c κs = search mine
-
-stand-requires : tie.Need-stand-requires Inv-loop μ-loop
-stand-requires c κs = (search mine, meeting-seated _ _ (c .before .before .before .before .before .before .before .before .before .before .before .loop .inv) (omega arith) (c .count-in .ensures))
-
-drain-requires : tie.Need-drain-requires Inv-loop μ-loop
-drain-requires c κs = search mine
+visit-requires : tie.Need-visit-requires Inv-loop μ-loop
+visit-requires c κs = search mine
 
 add-i : tie.Need-add-i Inv-loop μ-loop
 add-i c = search mine
@@ -46,10 +36,7 @@ loop-less : tie.Need-loop-less Inv-loop μ-loop
 loop-less c = search mine
 
 loop-again : tie.Need-loop-again Inv-loop μ-loop
-loop-again c =
-    let drained = c .before .before in
-    let met = drained .before .before .before .before .before .before .before .before .before .before .before in
-    meeting-next (met .before .before .before .before .before .before .loop .inv) (nearer-then (met .meet .ensures .0) (drained .drain .ensures)) (search mine) (omega arith)
+loop-again c = search mine
 
 same-length : tie.Need-same-length Inv-loop μ-loop
 same-length c = search mine
@@ -68,10 +55,7 @@ follow-spec =
     no-links-requires
     no-rows-requires
     loop-holds
-    meet-requires
-    count-in-requires
-    stand-requires
-    drain-requires
+    visit-requires
     add-i
     loop-less
     loop-again

@@ -1,7 +1,7 @@
 -- `classes::wake::found` meets its contract. Only a row that agrees is found.
 -- Assumes nothing.
 use Rattle.classes.proofs.Nearing.{found-one, mine}
-use native.Mathlib.Omega.{arith}
+use borrow.Author.Needs.{needs}
 use Rattle.classes.proofs.wake.found.Statement.{statement}
 use Rattle.classes.proofs.wake.found.Tie as tie
 
@@ -45,7 +45,7 @@ agree-requires : tie.Need-agree-requires
 agree-requires c κs = search mine
 
 returns-3 : tie.Need-returns-3
-returns-3 c = found-one _ _ _ _ _ _ (omega arith) (c .before .before .before .before .if1 .left) (c .before .agree .ensures) (c .if3 .taken)
+returns-3 c = found-one _ _ _ _ _ _ (search needs) (search needs) (c .before .agree .ensures) (c .if3 .taken)
 
 returns-4 : tie.Need-returns-4
 returns-4 c = search mine

@@ -1,6 +1,6 @@
 -- `runs::fit::fit_clause` meets its contract. The ways are too many pattern rows, too many literals, a pattern row that is not well-formed, and the literals.
 -- Assumes nothing.
-use Rattle.runs.proofs.Formed.{mine}
+use Rattle.runs.proofs.Ruled.{mine}
 use Rattle.runs.proofs.fit.fit_clause.Statement.{statement}
 use Rattle.runs.proofs.fit.fit_clause.Tie as tie
 
