@@ -36,7 +36,7 @@ pub enum Termed {
 }
 
 // The row that a field names, of the first n.
-pub(crate) fn row_at(text: &[u8], at: usize, n: usize) -> Found
+pub fn row_at(text: &[u8], at: usize, n: usize) -> Found
     requires { ⌜ at + 1 < length (now text) ⌝ }
     ensures { λ r. ⌜ r ≡ foundIn n (valueAt (now (text .entry)) at) ⌝ }
 {
@@ -93,7 +93,7 @@ fn symbol_at(text: &[u8], at: usize) -> u16
 }
 
 // The symbol and the arguments of a line that has count of them.
-fn term_of(text: &[u8], at: usize, end: usize, count: u8, n: usize) -> Termed
+pub fn term_of(text: &[u8], at: usize, end: usize, count: u8, n: usize) -> Termed
     requires { ⌜ TermLine (now text) at end count ⌝ }
     ensures { λ r. ⌜ r ≡ termFrom (now (text .entry)) at count n ⌝ }
 {

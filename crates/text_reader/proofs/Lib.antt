@@ -1,0 +1,11 @@
+pub mod Adding
+pub mod Agreeing
+pub mod Answering
+pub mod Entering
+pub mod Filling
+pub mod Kinded
+pub mod Pairing
+pub mod Standing
+pub mod Terming
+pub mod Turn
+pub mod Ways

@@ -1,0 +1,35 @@
+// What reading a text tells: that it is taken, or its refusal; and the runs that say its context and its rule.
+use runs::limits::LITERAL_RUN;
+use runs::limits::PATTERN_RUN;
+use runs::limits::ROW_RUN;
+use runs::limits::SAID_RUN;
+
+// Which refusal, the line that it names, counted from 1, and the byte within that line, counted from 0.
+pub struct Refusal {
+    pub number: u8,
+    pub line: u16,
+    pub offset: u16,
+}
+
+pub enum Answer {
+    Taken,
+    Refused(Refusal),
+}
+
+// How many numbers of each run are filled.
+pub struct Filled {
+    pub rows: usize,
+    pub said: usize,
+    pub patterns: usize,
+    pub literals: usize,
+}
+
+// The places past those that are filled are 0.
+pub struct Told {
+    pub answer: Answer,
+    pub filled: Filled,
+    pub rows: [u16; ROW_RUN],
+    pub said: [u16; SAID_RUN],
+    pub patterns: [u16; PATTERN_RUN],
+    pub literals: [u16; LITERAL_RUN],
+}
