@@ -2,9 +2,10 @@
 --     mostRows .. mostVariables     how many a context or a rule has at the most
 --     rowSize .. literalSize        the numbers of one row, statement, pattern row or literal
 --     argPlaces                     the places for a row's arguments
+--     rowRun .. literalRun          the numbers of the longest runs
 --     unusedPlace                   what stands for no row
 -- Assumes nothing.
-use Prim.Native.Nat.{ℕ}
+use Prim.Native.Nat.{ℕ, _*_}
 
 abbrev pub mostRows : ℕ
 mostRows = 255
@@ -35,6 +36,18 @@ literalSize = 3
 
 abbrev pub argPlaces : ℕ
 argPlaces = 4
+
+abbrev pub rowRun : ℕ
+rowRun = mostRows * rowSize
+
+abbrev pub saidRun : ℕ
+saidRun = mostStatements * saidSize
+
+abbrev pub patternRun : ℕ
+patternRun = mostPatterns * patternSize
+
+abbrev pub literalRun : ℕ
+literalRun = mostLiterals * literalSize
 
 abbrev pub unusedPlace : ℕ
 unusedPlace = 255
