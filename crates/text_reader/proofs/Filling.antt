@@ -1,11 +1,10 @@
 -- Runs that hold some pieces, and then zeros.
---     numbers-snoc     the numbers of one piece more
 --     put-length       a run is as long after a piece was written
 --     filled-start     a run of zeros
 --     filled-put       one piece more
 --     filled-holds     a run that holds what was read
 -- Assumes nothing.
-use mathlib.Core.List.{List, [], _∷_, _++_, append-assoc, append-nil}
+use mathlib.Core.List.{List, [], _∷_, _++_}
 use mathlib.Core.Path.{_≡_, sym, ap, _∙_}
 use Prim.Native.Nat.{ℕ, zero, suc, _+_, _-_, _*_, _≤_}
 use native.Mathlib.Nat.{suc-mul, zero-mul, zero-sub, sub-zero, suc-sub-suc}
@@ -17,13 +16,8 @@ use Rattle.meaning.specs.Columns.{pad}
 use Rattle.runs.specs.Runs.{put}
 use Rattle.told.specs.Numbers.{numbersOf}
 use Rattle.told.specs.Reads.{Holds}
+use Rattle.told.proofs.Saying.{numbers-snoc}
 use Rattle.text_reader.specs.Lines.{Filled}
-
-module _ {A : Type 0} (numbers : A → List ℕ) where
-  pub numbers-snoc : (l : List A) (x : A) → numbersOf numbers (l ++ (x ∷ [])) ≡ numbersOf numbers l ++ numbers x
-  unfolding numbersOf
-  numbers-snoc [] x = append-nil (numbers x)
-  numbers-snoc (a ∷ l) x = rw (numbers-snoc l x, append-assoc)
 
 pub put-length : (size : ℕ) (run : List ℕ) (n : ℕ) (piece run′ : List ℕ) → length piece ≡ size → n * size + size ≤ length run → run′ ≡ put size run n piece
     → length run′ ≡ length run
