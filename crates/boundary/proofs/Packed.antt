@@ -13,7 +13,7 @@ use borrow.Author.Needs.{needs}
 use lib.ListN.{length}
 use mir.Syntax.{w64}
 use mir.Val.{Fits}
-use Rattle.ledger.specs.declared.Refusal.{Refusal}
+use Rattle.replies.specs.declared.Refusal.{Refusal}
 use Rattle.meaning.specs.Context.{Row, Context}
 use Rattle.meaning.specs.Equality.{Representatives, reflexive}
 use Rattle.meaning.specs.Formed.{Fit}
@@ -28,12 +28,13 @@ use Rattle.meaning.proofs.Agreement.{normal-one}
 use Rattle.meaning.proofs.Bounds.{normal-bytes}
 use Rattle.meaning.proofs.Kept.{ContextFits, read-kept}
 use Rattle.meaning.proofs.Taken.{read-formed}
-use Rattle.finder.specs.Claims.{toldBy, toldOf, Finds}
+use Rattle.replies.specs.Told.{toldBy, toldOf}
+use Rattle.finder.specs.Claims.{Finds}
 use Rattle.finder.specs.Following.{Follows}
 use Rattle.finder.proofs.Following.{followed-one}
-use Rattle.finder.specs.declared.Outcome.{Outcome}
-use Rattle.finder.specs.declared.Outcome.the-variants as O
-use Rattle.finder.specs.declared.Reply.{Reply}
+use Rattle.replies.specs.declared.Outcome.{Outcome}
+use Rattle.replies.specs.declared.Outcome.the-variants as O
+use Rattle.replies.specs.declared.Reply.{Reply}
 use Rattle.normaliser.specs.Claims.{writtenBy}
 use Rattle.normaliser.specs.declared.Written.{Written}
 use Rattle.normaliser.specs.declared.Written.the-variants as W

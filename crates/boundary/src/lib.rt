@@ -2,9 +2,9 @@
 
 mod table;
 
-use finder::Outcome;
-use ledger::Refusal;
 use normaliser::Written;
+use replies::Outcome;
+use replies::Refusal;
 ghost use mathlib.Core.Path.{_≡_};
 ghost use Rattle.boundary.specs.Claims.{Answers, Proceeds, Settles};
 ghost use Rattle.boundary.specs.Packs.{packedBy, packedOutcome, handedBy, Small, packedAnswer};

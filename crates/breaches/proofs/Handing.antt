@@ -11,8 +11,8 @@ use lib.ListN.{length, take, replicate}
 use Rattle.meaning.specs.Text.{narrow}
 use Rattle.meaning.specs.Replies.{refused, refusal, printed}
 use Rattle.meaning.specs.Listing.{BreachesPrints}
-use Rattle.ledger.specs.Phases.{meant}
-use Rattle.normaliser.specs.Prints.{Prints}
+use Rattle.replies.specs.Told.{meant}
+use Rattle.reply_lines.specs.Prints.{Prints}
 use Rattle.listing.specs.declared.State.{State}
 use Rattle.listing.specs.declared.opening.Opened.{Opened}
 use Rattle.listing.specs.Filling.{over}

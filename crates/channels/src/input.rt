@@ -1,6 +1,7 @@
 // Standard input.
 use crate::moves::Move;
 use crate::moves::read_once;
+use replies::INPUT_LIMIT;
 ghost use mathlib.Core.Path.{_≡_};
 ghost use Prim.Native.Nat.{suc};
 ghost use lib.ListN.{replicate};
@@ -8,7 +9,7 @@ ghost use Rattle.meaning.specs.Replies.{inputLimit};
 ghost use Rattle.channels.specs.Taking.{pieceSpace, Takes};
 
 // One byte more than a program takes, so that an input that is too long is known.
-pub const INPUT_SPACE: usize = 16385;
+pub const INPUT_SPACE: usize = INPUT_LIMIT + 1;
 
 // What an input without a limit is taken in by.
 pub const PIECE_SPACE: usize = 8192;

@@ -1,10 +1,10 @@
 // The closing of a context that is lent as two runs: each row's representative, the lowest row that is equal to it. The runs and the table
 // that is lent below `close` have any length.
 
-pub mod mates;
+mod mates;
 mod statements;
-pub mod table;
-pub mod wake;
+mod table;
+mod wake;
 
 use mates::join_rows;
 use runs::fit::fit_context;

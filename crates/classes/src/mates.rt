@@ -20,7 +20,7 @@ ghost use Rattle.classes.specs.Steps.{chains, Laid, Seated, argReps, sam
 pub(crate) const CHAINS: usize = 256;
 
 // The representative of argument k of row i.
-pub fn arg_class(rows: &[u16], table: &[u16], i: usize, k: usize) -> u16
+pub(crate) fn arg_class(rows: &[u16], table: &[u16], i: usize, k: usize) -> u16
     requires { ⌜ i < rowCount (now rows) ⌝ }
     requires { ⌜ k < argPlaces ⌝ }
     ensures { λ r. ⌜ r ≡ repAt (now (table .entry)) (argIn (now (rows .entry)) i k) ⌝ }
@@ -137,7 +137,7 @@ pub(crate) fn no_rows() -> [u16; ROWS]
 }
 
 // Each row and its mate get one representative. A chain's head is its last row, and next leads from a row to the one before it.
-pub fn join_rows(rows: &[u16], table: &mut [u16])
+pub(crate) fn join_rows(rows: &[u16], table: &mut [u16])
     requires { ⌜ Laid (now rows) ⌝ }
     ensures { λ _. ⌜ Passed (rowsOf (now (rows .entry))) (now (table .entry)) (now (table .exit)) ⌝ }
 {

@@ -10,7 +10,7 @@ ghost use Rattle.meaning.specs.Closing.{move, total, count as numbers};
 ghost use Rattle.classes.specs.Steps.{moveFrom, merge};
 
 // What a table holds at a row, and 0 past its end.
-pub fn at_row(table: &[u16], row: usize) -> u16
+pub(crate) fn at_row(table: &[u16], row: usize) -> u16
     ensures { λ r. ⌜ r ≡ repAt (now (table .entry)) row ⌝ }
 {
     if row < table.len() { table[row] } else { 0 }
@@ -58,7 +58,7 @@ fn move_class(table: &mut [u16], lo: u16, hi: u16)
 }
 
 // The classes of rows i and j become one, under the lower representative.
-pub fn unite(table: &mut [u16], i: usize, j: usize)
+pub(crate) fn unite(table: &mut [u16], i: usize, j: usize)
     ensures { λ _. ⌜ now (table .exit) ≡ merge i j (now (table .entry)) ⌝ }
 {
     let a = at_row(table, i);
@@ -71,7 +71,7 @@ pub fn unite(table: &mut [u16], i: usize, j: usize)
 }
 
 // The sum of the representatives.
-pub fn sum(table: &[u16]) -> u32
+pub(crate) fn sum(table: &[u16]) -> u32
     requires { ⌜ length (now table) ≤ 65535 ⌝ }
     ensures { λ r. ⌜ r ≡ total (length (now (table .entry))) (repAt (now (table .entry))) ⌝ }
 {

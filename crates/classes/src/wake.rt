@@ -217,7 +217,7 @@ fn visit(
 }
 
 // A pass over the rows in which each merge is followed up at once.
-pub fn follow(rows: &[u16], table: &mut [u16])
+pub(crate) fn follow(rows: &[u16], table: &mut [u16])
     requires { ⌜ Laid (now rows) ⌝ }
     ensures { λ _. ⌜ Nearer (rowsOf (now (rows .entry))) (now (table .entry)) (now (table .exit)) ⌝ }
 {

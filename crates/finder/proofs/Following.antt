@@ -25,19 +25,21 @@ use Rattle.meaning.proofs.Pruned.{Sought}
 use Rattle.meaning.proofs.ListingNext.{next-first, own-sought}
 use Rattle.ledger.specs.declared.ContextColumns.{ContextColumns}
 use Rattle.ledger.specs.declared.ClauseColumns.{ClauseColumns}
-use Rattle.ledger.specs.declared.Refusal.{Refusal}
-use Rattle.ledger.specs.Phases.{meant}
+use Rattle.replies.specs.declared.Refusal.{Refusal}
+use Rattle.replies.specs.Told.{meant, toldOf}
 use Rattle.differing.proofs.Knowing.{knows-start}
 use Rattle.search.specs.Hunting.{answerOf}
 use Rattle.search.specs.Finding.{foundBy, laterBy, NextIn, next-fits, next-unfits}
 use Rattle.search.specs.declared.Reply.{Reply as Searched}
-use Rattle.finder.specs.Claims.{said, asked, Asks, refusedWith, answeredWith, toldOf, Prepares}
+use Rattle.prepared.specs.Claims.{said, asked, Asks, Prepares}
+use Rattle.finder.specs.Claims.{refusedWith, answeredWith}
 use Rattle.finder.specs.Following.{FollowsIn, FollowsTo, refuses, follows, Follows}
-use Rattle.finder.specs.declared.Answer.the-variants as A
-use Rattle.finder.specs.declared.Prepared.{Prepared}
-use Rattle.finder.specs.declared.Outcome.{Outcome}
-use Rattle.finder.specs.declared.Reply.{Reply}
-use Rattle.finder.proofs.Preparing.{rows-long, found-never, Stands, ready-stands, ready-asks, ready-consistent, ready-replies, refused-answers}
+use Rattle.prepared.specs.declared.Answer.the-variants as A
+use Rattle.prepared.specs.declared.Prepared.{Prepared}
+use Rattle.replies.specs.declared.Outcome.{Outcome}
+use Rattle.replies.specs.declared.Reply.{Reply}
+use Rattle.prepared.proofs.Preparing.{rows-long, found-never, Stands, ready-stands, ready-asks, ready-consistent, refused-answers}
+use Rattle.finder.proofs.Ready.{ready-replies}
 use Rattle.finder.proofs.Judging.{ready-closed, lent, told-one}
 
 pub after-answers : (c : ContextColumns) (t : List ℕ) (k : ClauseColumns) (after : List ℕ) → Asks c k → (r : Searched)

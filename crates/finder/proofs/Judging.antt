@@ -11,9 +11,8 @@ use Prim.Native.Nat.{ℕ, _≤_}
 use native.Mathlib.Omega.{arith}
 use borrow.Author.Needs.{needs}
 use Rattle.meaning.specs.Equality.{Promise}
-use Rattle.meaning.specs.Rules.{Found, found, nothing}
+use Rattle.meaning.specs.Rules.{Found, found, nothing, Clause}
 use Rattle.meaning.specs.Context.{Context}
-use Rattle.meaning.specs.Rules.{Clause}
 use Rattle.meaning.specs.Text as T
 use Rattle.meaning.specs.Text.{narrow, read, faulty, taken}
 use Rattle.meaning.specs.Replies as M
@@ -22,8 +21,8 @@ use Rattle.meaning.proofs.Answered.{replies-one}
 use Rattle.meaning.proofs.Bounds.{read-bounded}
 use Rattle.ledger.specs.declared.ContextColumns.{ContextColumns}
 use Rattle.ledger.specs.declared.ClauseColumns.{ClauseColumns}
-use Rattle.ledger.specs.declared.Refusal.{Refusal}
-use Rattle.ledger.specs.Phases.{meant}
+use Rattle.replies.specs.declared.Refusal.{Refusal}
+use Rattle.replies.specs.Told.{meant, toldBy, toldOf}
 use Rattle.differing.specs.Knowing.{Lends}
 use Rattle.differing.proofs.Knowing.{knows-start}
 use Rattle.search.specs.Hunting.{answerOf}
@@ -31,14 +30,15 @@ use Rattle.search.specs.Finding.{foundBy, FindsIn, fits, unfits}
 use Rattle.search.specs.declared.Kind.{Kind}
 use Rattle.search.specs.declared.Kind.the-variants as S
 use Rattle.search.specs.declared.Reply.{Reply as Searched}
-use Rattle.finder.specs.Claims.{said, asked, MarkedIn, Asks, refusedWith, answeredWith, toldBy, toldOf, Prepares, Finds}
-use Rattle.finder.specs.declared.Answer.the-variants as A
-use Rattle.finder.specs.declared.Prepared.{Prepared}
-use Rattle.finder.specs.declared.Outcome.{Outcome}
-use Rattle.finder.specs.declared.Outcome.the-variants as O
-use Rattle.finder.specs.declared.Reply.{Reply}
-use Rattle.finder.proofs.Holding.{clash-said}
-use Rattle.finder.proofs.Preparing.{ready-asks, ready-replies, refused-answers}
+use Rattle.prepared.specs.Claims.{said, asked, Asks, Prepares}
+use Rattle.finder.specs.Claims.{MarkedIn, refusedWith, answeredWith, Finds}
+use Rattle.prepared.specs.declared.Answer.the-variants as A
+use Rattle.prepared.specs.declared.Prepared.{Prepared}
+use Rattle.replies.specs.declared.Outcome.{Outcome}
+use Rattle.replies.specs.declared.Outcome.the-variants as O
+use Rattle.replies.specs.declared.Reply.{Reply}
+use Rattle.prepared.proofs.Preparing.{ready-asks, refused-answers}
+use Rattle.finder.proofs.Ready.{ready-replies}
 
 pub lent : (c : ContextColumns) (t marks : List ℕ) → Promise (said c) 255 t → MarkedIn c t marks
     → Lends (c .symbols) (c .counts) (c .args) (c .rows) (c .kinds) (c .lefts) (c .rights) (c .statements) t marks
@@ -130,4 +130,4 @@ finds-one text r s p q =
     let l : r .places ≡ s .places = p .places ∙ ap placesOf e ∙ sym (q .places) in
     ap₂ (λ (x : Outcome) (y : List ℕ). record { outcome = x; places = y }) o l
 
-pub ruleset mine = (needs, lent, knows-start, clash-said, hunt-answers, answered-breach, answered-clear, answered-unfit, find-refused, ready-asks, ready-closed, find-found)
+pub ruleset mine = (needs, lent, knows-start, hunt-answers, answered-breach, answered-clear, answered-unfit, find-refused, ready-asks, ready-closed, find-found)

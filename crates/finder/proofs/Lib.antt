@@ -1,6 +1,4 @@
 -- The root of the laws.
-pub mod Holding
-pub mod Preparing
+pub mod Ready
 pub mod Judging
 pub mod Following
-pub mod Controls

@@ -13,8 +13,8 @@ use Rattle.meaning.specs.Text.{narrow, Refusal, Read, taken, read}
 use Rattle.meaning.specs.Replies as M
 use Rattle.meaning.specs.Replies.{refused, replyOf, placesOf, Replies}
 use Rattle.meaning.specs.Listing.{OwnBreach}
-use Rattle.finder.specs.Claims.{toldBy, toldOf}
-use Rattle.finder.specs.declared.Reply.{Reply}
+use Rattle.replies.specs.Told.{toldBy, toldOf}
+use Rattle.replies.specs.declared.Reply.{Reply}
 
 abbrev pub FollowsIn : Context → Clause → List ℕ → Found → Type 0
 FollowsIn c k after r = First (λ a. OwnBreach c k a × Before (take (variables (k .patterns)) after) a) r

@@ -1,4 +1,3 @@
 -- The root of the definitions.
 pub mod Claims
-pub mod Ruling
 pub mod Following

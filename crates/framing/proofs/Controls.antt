@@ -15,8 +15,8 @@ use Rattle.meaning.specs.Writing.{frame, hex, digitOf}
 use Rattle.meaning.specs.Replies.{Reply, breach, codeOf, valuesOf, printed}
 use Rattle.meaning.specs.Sheet.{bytes}
 use Rattle.verifier.specs.declared.Conclusions.{Conclusions}
-use Rattle.normaliser.specs.Pieces.{run}
-use Rattle.normaliser.specs.Prints.{Prints}
+use Rattle.reply_lines.specs.Pieces.{run}
+use Rattle.reply_lines.specs.Prints.{Prints}
 use Rattle.writer.specs.Claims.{most, space}
 use Rattle.writer.proofs.Controls.{lullaby, lullaby-short, reply-is, no-stepless}
 use Rattle.framing.specs.Lines.{sizeAt}

@@ -18,9 +18,9 @@ use lib.Dec.{ltb, leb}
 use lib.ListN.{length, drop, length-append}
 use lib.Seq.{sets, sets-eq, length-sets}
 use Rattle.verifier.specs.declared.Conclusions.{Conclusions}
-use Rattle.normaliser.specs.Pieces.{run}
-use Rattle.normaliser.proofs.Stores.{sets-append}
-use Rattle.normaliser.proofs.Running.{run-snoc}
+use Rattle.reply_lines.specs.Pieces.{run}
+use Rattle.reply_lines.proofs.Stores.{sets-append}
+use Rattle.reply_lines.proofs.Running.{run-snoc}
 use Rattle.framing.specs.declared.Filled.{Filled}
 use Rattle.framing.specs.Lines.{itemFrame, sizeAt}
 use Rattle.framing.specs.Filling.{stepCount, itemCount, lineIn, framesFrom, fitting, countFrom, fillsFrom, Fills, ItemRoom}

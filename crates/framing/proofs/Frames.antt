@@ -18,8 +18,8 @@ use Rattle.meaning.specs.Writing.{hex, frame}
 use Rattle.meaning.specs.Grounds.{Conclusion}
 use Rattle.meaning.specs.GroundColumns.{conclusionFrom}
 use Rattle.verifier.specs.declared.Conclusions.{Conclusions}
-use Rattle.normaliser.proofs.Stores.{sets-append}
-use Rattle.normaliser.proofs.Lines.{hex-append, length-hex, length-frame}
+use Rattle.reply_lines.proofs.Stores.{sets-append}
+use Rattle.reply_lines.proofs.Lines.{hex-append, length-hex, length-frame}
 use Rattle.framing.specs.Lines.{octets, stepBytes, stepFrame, citedBytes, endBytes, endFrame, endOf, itemFrame, sizeAt}
 use Rattle.framing.specs.Filling.{ItemRoom}
 use Rattle.framing.proofs.Numbers.{length-octets}

@@ -11,8 +11,8 @@ use borrow.Author.Needs.{needs}
 use lib.ListN.{length, set, length-append}
 use lib.Seq.{sets, length-sets, set-comm}
 use Rattle.meaning.specs.Writing.{hex}
-use Rattle.normaliser.proofs.Stores.{sets-append}
-use Rattle.normaliser.proofs.Lines.{digit-low, digit-high, byte-stored, next-inside}
+use Rattle.reply_lines.proofs.Stores.{sets-append}
+use Rattle.reply_lines.proofs.Lines.{next-inside}
 use Rattle.framing.specs.Lines.{octets}
 
 pub length-octets : (n x : ℕ) → length (octets n x) ≡ n
@@ -79,4 +79,4 @@ storing-done {x} {n} {at} {left} {rest} {lent} {after} f h =
     let q : octets n x ≡ f .tail = f .split ∙ ap (λ (k : ℕ). octets k rest ++ f .tail) e in
     f .stored ∙ ap (λ (k : ℕ). sets lent k (hex (f .tail))) p ∙ ap (λ (l : List ℕ). sets lent at (hex l)) (sym q)
 
-pub ruleset mine = (needs, digit-low, digit-high, byte-stored, next-inside, storing-start, storing-next, storing-room, storing-done)
+pub ruleset mine = (needs, next-inside, storing-start, storing-next, storing-room, storing-done)

@@ -17,24 +17,22 @@ use Rattle.meaning.specs.Text.{narrow}
 use Rattle.meaning.specs.Replies.{Reply, breach, none, refused, refusal, printed, placesOf, inputLimit, Replies, FindPrints}
 use Rattle.meaning.specs.Replies as R
 use Rattle.meaning.proofs.Answered.{replies-one}
-use Rattle.ledger.specs.Phases.{meant}
-use Rattle.ledger.specs.declared.Refusal.{Refusal}
-use Rattle.finder.specs.Claims.{toldBy, toldOf, Finds}
-use Rattle.finder.specs.declared.Outcome.{Outcome}
-use Rattle.finder.specs.declared.Outcome.the-variants as O
-use Rattle.finder.specs.declared.Reply.{Reply as Answer}
-use Rattle.normaliser.specs.Pieces.{run}
-use Rattle.normaliser.specs.Prints.{Prints}
-use Rattle.normaliser.specs.declared.printed.Line.{Line}
+use Rattle.replies.specs.Told.{meant, toldBy, toldOf}
+use Rattle.replies.specs.declared.Refusal.{Refusal}
+use Rattle.replies.specs.declared.Outcome.{Outcome}
+use Rattle.replies.specs.declared.Outcome.the-variants as O
+use Rattle.reply_lines.specs.Pieces.{run}
+use Rattle.reply_lines.specs.Prints.{Prints, lineBy}
+use Rattle.reply_lines.specs.declared.Line.{Line}
 use Rattle.printing.specs.Claims.{PrintsFound}
-use Rattle.printing.proofs.Printing.{prints-breach, prints-clear, prints-refused}
+use Rattle.printing.proofs.Printing.{prints-reply}
 use Rattle.verifier.specs.declared.Conclusions.{Conclusions}
 use Rattle.writer.specs.Claims as W
 use Rattle.writer.specs.Claims.{most, noConclusions, space, Answers, Bare, Leaves, Writes}
 use Rattle.writer.specs.declared.Grounds.{Grounds}
 use Rattle.framing.specs.declared.opening.Opened.{Opened}
 use Rattle.framing.specs.Filling.{stepCount, itemCount, lineIn, framesFrom}
-use Rattle.framing.specs.Opening.{lineBy, Opens, long, replies}
+use Rattle.framing.specs.Opening.{Opens, long, replies}
 
 -- ---- the line of a reply
 
@@ -55,18 +53,10 @@ module _ (input : List ℕ) (r : Line) (few : length input ≤ inputLimit) (outc
     (p : Prints (lineBy outcome places) (r .bytes) (r .len)) where
   -- a reply of the finder
   finds-line : (y : Reply) → Replies narrow input y → toldBy outcome ≡ toldOf y → places ≡ placesOf y → Prints (printed y) (r .bytes) (r .len)
-  finds-line y w t q = found-line input r few (go outcome refl) y w
-    where
-      x : Answer
-      x = record { outcome = outcome; places = places }
-
-      finds : Finds input x
-      finds = record { reply = y; replies = w; told = t; places = q }
-
-      go : (o : Outcome) → outcome ≡ o → PrintsFound input r
-      go (O.Breach n) e = prints-breach input r few x finds n n e refl (subst (λ (o : Outcome). Prints (lineBy o places) (r .bytes) (r .len)) e p)
-      go O.Clear e = prints-clear input r few x finds e (subst (λ (o : Outcome). Prints (lineBy o places) (r .bytes) (r .len)) e p)
-      go (O.Refused f) e = prints-refused input r few x finds f e (subst (λ (o : Outcome). Prints (lineBy o places) (r .bytes) (r .len)) e p)
+  finds-line y w t q =
+      found-line input r few
+      (prints-reply input r few (record { outcome = outcome; places = places }) (record { reply = y; replies = w; told = t; places = q }) p)
+      y w
 
   -- refusal 10, which the finder does not have
   lacks-line : (f : M.Refusal) → toldBy outcome ≡ toldOf (refused f) → Prints (printed (refused f)) (r .bytes) (r .len)
@@ -100,20 +90,7 @@ opened-written input firsts seconds thirds firsts′ seconds′ thirds′ line r
     (line-told input line few (r .outcome) (r .places) p (space firsts seconds thirds) (w .reply) (w .answers) (w .told) (w .places))
     (record { steps = refl; literals = refl; conclusions = refl })
 
--- ---- the outcome's line, by cases
-
-pub outcome-breach : (o : Outcome) (n m : ℕ) (places : List ℕ) (l : Line) → o ≡ O.Breach n → m ≡ n → Prints (lineBy (O.Breach m) places) (l .bytes) (l .len)
-    → Prints (lineBy o places) (l .bytes) (l .len)
-outcome-breach o n m places l e f p = rw (e, ← f) p
-
-pub outcome-clear : (o : Outcome) (places : List ℕ) (l : Line) → o ≡ O.Clear → Prints (printed none) (l .bytes) (l .len) → Prints (lineBy o places) (l .bytes) (l .len)
-outcome-clear o places l e p = rw e p
-
-pub outcome-refused : (o : Outcome) (x : Refusal) (places : List ℕ) (l : Line) → o ≡ O.Refused x → Prints (printed (refused (meant x))) (l .bytes) (l .len)
-    → Prints (lineBy o places) (l .bytes) (l .len)
-outcome-refused o x places l e p = rw e p
-
-pub ruleset mine = (needs, opened-long, opened-written, outcome-breach, outcome-clear, outcome-refused)
+pub ruleset mine = (needs, opened-long, opened-written)
 
 -- ---- what is printed
 

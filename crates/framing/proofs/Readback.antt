@@ -19,7 +19,7 @@ use Rattle.meaning.specs.Writing.{digitOf, hex}
 use Rattle.meaning.specs.Grounds.{Conclusion}
 use Rattle.meaning.proofs.Lists.{below-append}
 use Rattle.meaning.proofs.Lines.{digit-value, whole}
-use Rattle.normaliser.proofs.Lines.{length-hex}
+use Rattle.reply_lines.proofs.Lines.{length-hex}
 use Rattle.intake.specs.Parsing.{allDigits, goodLine, digitsOf, byteOf, twoOf, fourOf, eightOf, formed, isStep, wordOf, conclusionOf, concludes}
 use Rattle.framing.specs.Lines.{octets, stepBytes, citedBytes, endBytes}
 

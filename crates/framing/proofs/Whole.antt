@@ -15,8 +15,8 @@ use Rattle.meaning.specs.Grounds.{Conclusion}
 use Rattle.meaning.specs.GroundColumns.{conclusionsFrom}
 use Rattle.meaning.proofs.Lines.{whole, frame-line}
 use Rattle.verifier.specs.declared.Conclusions.{Conclusions}
-use Rattle.normaliser.specs.Pieces.{run}
-use Rattle.normaliser.proofs.Running.{run-snoc}
+use Rattle.reply_lines.specs.Pieces.{run}
+use Rattle.reply_lines.proofs.Running.{run-snoc}
 use Rattle.intake.specs.Parsing.{goodLine, digitsOf, wordOf, wordsIn, conclusionsIn}
 use Rattle.framing.specs.Lines.{stepBytes, stepFrame, endBytes, endFrame, endOf, itemFrame}
 use Rattle.framing.specs.Filling.{stepCount, itemCount, lineIn, framesFrom}

@@ -13,7 +13,7 @@ use Prim.Native.Nat.{ℕ, zero, suc, _+_, _-_, _≤_, _<_, min}
 use lib.Dec.{leb}
 use lib.ListN.{length, drop}
 use Rattle.verifier.specs.declared.Conclusions.{Conclusions}
-use Rattle.normaliser.specs.Pieces.{run}
+use Rattle.reply_lines.specs.Pieces.{run}
 use Rattle.framing.specs.Lines.{itemFrame, sizeAt}
 use Rattle.framing.specs.declared.Filled.{Filled}
 

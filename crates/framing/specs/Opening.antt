@@ -1,27 +1,17 @@
 -- What is printed first for an input, and what the frames are printed from.
---     lineBy    the line of an outcome and the rows of its variables
 --     Empty     nothing was written
 --     Handed    what the writer answered is handed on
 --     Opens     refusal 11 with nothing written, else the line of the writer's reply, and what it wrote
 -- Assumes nothing.
-use mathlib.Core.List.{List, map}
+use mathlib.Core.List.{List}
 use mathlib.Core.Path.{_≡_}
 use Prim.Native.Nat.{ℕ, _≤_, _<_}
-use lib.ListN.{length, take}
-use Rattle.meaning.specs.Replies.{breach, none, refused, refusal, printed, inputLimit}
-use Rattle.ledger.specs.Phases.{meant}
-use Rattle.finder.specs.declared.Outcome.{Outcome}
-use Rattle.finder.specs.declared.Outcome.the-variants.{Breach, Clear, Refused}
-use Rattle.normaliser.specs.Pieces.{low8}
-use Rattle.normaliser.specs.Prints.{Prints}
+use lib.ListN.{length}
+use Rattle.meaning.specs.Replies.{refused, refusal, printed, inputLimit}
+use Rattle.reply_lines.specs.Prints.{Prints}
 use Rattle.writer.specs.Claims.{noConclusions, Writes}
 use Rattle.writer.specs.declared.Grounds.{Grounds}
 use Rattle.framing.specs.declared.opening.Opened.{Opened}
-
-abbrev pub lineBy : Outcome → List ℕ → List ℕ
-lineBy (Breach n) places = printed (breach (map low8 (take n places)))
-lineBy Clear places = printed none
-lineBy (Refused x) places = printed (refused (meant x))
 
 pub record Empty (o : Opened) : Type 0 where
   pub steps : o .steps ≡ 0

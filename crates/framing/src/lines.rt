@@ -1,27 +1,13 @@
 // The lines of steps and of conclusions: two digits a byte, and a feed.
+use reply_lines::hex::put_byte;
 use verifier::Conclusions;
 ghost use mathlib.Core.Path.{_≡_};
-ghost use mathlib.Core.List.{[], _∷_, _++_};
+ghost use mathlib.Core.List.{_++_};
 ghost use Prim.Native.Nat.{_+_, _*_, _<_, _≤_};
 ghost use lib.ListN.{length};
 ghost use lib.Seq.{sets};
-ghost use Rattle.meaning.specs.Writing.{digitOf, hex, frame};
+ghost use Rattle.meaning.specs.Writing.{hex, frame};
 ghost use Rattle.framing.specs.Lines.{octets, stepFrame, citedBytes, endFrame, endOf};
-
-fn digit(v: u8) -> u8
-    requires { ⌜ v < 16 ⌝ }
-    ensures { λ r. ⌜ r ≡ digitOf v ⌝ }
-{
-    if v < 10 { 48 + v } else { 55 + v }
-}
-
-fn put_byte(b: u8, lent: &mut [u8], at: usize)
-    requires { ⌜ at + 2 ≤ length (now lent) ⌝ }
-    ensures { λ _. ⌜ now (lent .exit) ≡ sets (now (lent .entry)) at (hex (b ∷ [])) ⌝ }
-{
-    lent[at] = digit(b / 16);
-    lent[at + 1] = digit(b % 16);
-}
 
 // The n low bytes of a number, the high one first; the low one is stored first.
 fn put_number(x: u64, n: usize, lent: &mut [u8], at: usize)

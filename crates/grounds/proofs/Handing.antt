@@ -19,7 +19,7 @@ use borrow.Author.Tests.{not-true}
 use lib.ListN.{length, take, drop, replicate, length-replicate}
 use Rattle.meaning.specs.Text.{narrow}
 use Rattle.meaning.specs.Replies.{FindPrints}
-use Rattle.normaliser.specs.Pieces.{run}
+use Rattle.reply_lines.specs.Pieces.{run}
 use Rattle.printing.specs.Claims.{PrintsFound}
 use Rattle.verifier.specs.declared.Conclusions.{Conclusions}
 use Rattle.writer.specs.Claims.{most, space}

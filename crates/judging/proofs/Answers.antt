@@ -18,7 +18,7 @@ use Rattle.meaning.proofs.Apartness.{first-clash-one}
 use Rattle.meaning.proofs.Grounded as G
 use Rattle.meaning.proofs.Grounded.{verdict-one}
 use Rattle.verifier.proofs.Answers.{verdict-answer}
-use Rattle.ledger.specs.Phases.{meant}
+use Rattle.replies.specs.Told.{meant}
 use Rattle.verifier.specs.declared.Conclusions.{Conclusions}
 use Rattle.judging.specs.Judgements.{Judgement, judged, refused, Weighed, empty, clashes, weighs, Judges, faults, judges, BreachOf}
 use Rattle.judging.specs.Claims.{judgementOf, concludedIn, JudgesTo}

@@ -1,5 +1,4 @@
 -- The root of the laws.
-pub mod Holding
-pub mod Judging
 pub mod Answers
+pub mod Judging
 pub mod Controls

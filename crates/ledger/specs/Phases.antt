@@ -2,7 +2,7 @@
 --     rowOf .. patternOf           what the functions on one line of a phase answer
 --     Rising                       what the lines read so far and the next kind say of the ranks
 --     Stands                       the columns hold what the lines before a place said, and the text's reading goes on from there
---     meant, Faulty                a refusal as a value of `meaning`; a text that it is given for
+--     Faulty                       a text that a refusal is given for
 --     ContextPhase .. LiteralsPhase   a phase's promise, by cases of where it ends
 --     sizedOf, LastFault           the length and the fault of a line that no phase reads
 -- Assumes nothing.
@@ -12,17 +12,17 @@ use mathlib.Core.Path.{_≡_}
 use Prim.Native.Nat.{ℕ, suc, _+_, _-_, _*_, _<_, _≤_}
 use lib.Dec.{eqb, ltb}
 use lib.ListN.{length, getD, drop}
-use Rattle.meaning.specs.Text as T
 use Rattle.meaning.specs.Text.{Read, faulty, read, readLines, narrow, linesOf}
 use Rattle.meaning.specs.Columns.{argsIn}
 use Rattle.frames.specs.Choice.{choose}
 use Rattle.frames.specs.Lines.{valueAt, kindAt}
 use Rattle.frames.specs.Entries.{termOf, variableOf}
 use Rattle.frames.specs.Agree.{agreeRows, agreePatterns}
+use Rattle.replies.specs.Told.{meant}
 use Rattle.ledger.specs.Columns.{contextColumns, clauseColumns, noClause}
 use Rattle.frames.specs.declared.entries.Termed.{Termed}
 use Rattle.ledger.specs.declared.ContextColumns.{ContextColumns}
-use Rattle.ledger.specs.declared.Refusal.{Refusal}
+use Rattle.replies.specs.declared.Refusal.{Refusal}
 use Rattle.ledger.specs.declared.context.Next.{Next}
 use Rattle.ledger.specs.declared.context.Next.the-variants.{At, Refused}
 use Rattle.ledger.specs.declared.ClauseColumns.{ClauseColumns}
@@ -79,10 +79,6 @@ pub record Stands (text : List ℕ) (at line m : ℕ) (c : ContextColumns) (k : 
   pub clause : k ≡ clauseColumns (said .clause)
   pub within : Within said line
   pub rising : Rising (kindAt text at) (said .rank) m
-
--- the refusal that the code's struct stands for
-abbrev pub meant : Refusal → T.Refusal
-meant x = record { number = x .number; place = x .line; offset = x .offset }
 
 abbrev pub Faulty : List ℕ → Refusal → Type 0
 Faulty text x = read narrow text ≡ faulty (meant x)

@@ -1,7 +1,6 @@
 // Context lines: the rows, and then the statements. Each phase ends at the first line of another kind, so that the order of the phases is the order of
 // the ranks, and a line that no phase reads is faulty (last.rt). The kind is looked at before the line is scanned, so that no line is scanned twice.
 use super::ContextColumns;
-use super::Refusal;
 use frames::agree::agreed_rows;
 use frames::entries::Paired;
 use frames::entries::Termed;
@@ -10,6 +9,7 @@ use frames::entries::term_line;
 use frames::lines::Line;
 use frames::lines::kind_at;
 use frames::lines::line_at;
+use replies::Refusal;
 ghost use mathlib.Core.Path.{_≡_};
 ghost use Prim.Native.Nat.{_≤_};
 ghost use Rattle.frames.specs.Lines.{Legible};

@@ -1,13 +1,6 @@
 // What the lines of a context say, in columns.
 pub mod context;
 
-// Which refusal, the line that it names, counted from 1, and the byte within that line, counted from 0.
-pub struct Refusal {
-    pub number: u8,
-    pub line: u16,
-    pub offset: u16,
-}
-
 // Rows with a symbol, a count and four places for arguments; statements with their kind, 2 or 3, in the text's order; how many of each.
 pub struct ContextColumns {
     pub rows: usize,

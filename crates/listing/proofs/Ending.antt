@@ -17,7 +17,7 @@ use Rattle.meaning.proofs.Listing.{goes-one}
 use Rattle.meaning.proofs.ListingNext.{everyBy, everyAfter, every-goes, after-goes}
 use Rattle.ledger.specs.declared.ContextColumns.{ContextColumns}
 use Rattle.ledger.specs.declared.ClauseColumns.{ClauseColumns}
-use Rattle.finder.specs.Claims.{said, asked}
+use Rattle.prepared.specs.Claims.{said, asked}
 use Rattle.listing.specs.declared.Stage.{Stage}
 use Rattle.listing.specs.declared.Stage.the-variants.{Start, After, Done}
 use Rattle.listing.specs.declared.State.{State}

@@ -16,8 +16,8 @@ use Rattle.meaning.specs.Writing.{frame}
 use Rattle.meaning.specs.Replies.{Reply, codeOf, valuesOf, replyOf, printed}
 use Rattle.ledger.specs.declared.ContextColumns.{ContextColumns}
 use Rattle.ledger.specs.declared.ClauseColumns.{ClauseColumns}
-use Rattle.normaliser.specs.Prints.{Prints}
-use Rattle.normaliser.proofs.Lines.{length-frame}
+use Rattle.reply_lines.specs.Prints.{Prints}
+use Rattle.reply_lines.proofs.Lines.{length-frame}
 use Rattle.listing.specs.declared.State.{State}
 use Rattle.listing.specs.declared.Filled.{Filled}
 use Rattle.listing.specs.declared.Entry.{Entry}

@@ -33,10 +33,10 @@ use Rattle.search.specs.Finding.{foundBy, laterBy, FindsIn, NextIn}
 use Rattle.search.specs.declared.Kind.{Kind}
 use Rattle.search.specs.declared.Kind.the-variants as S
 use Rattle.search.specs.declared.Reply.{Reply}
-use Rattle.finder.specs.Claims.{said, asked}
-use Rattle.normaliser.specs.Pieces.{low8}
-use Rattle.normaliser.specs.Prints.{Prints}
-use Rattle.normaliser.proofs.Stores.{sets-append}
+use Rattle.prepared.specs.Claims.{said, asked}
+use Rattle.reply_lines.specs.Pieces.{low8}
+use Rattle.reply_lines.specs.Prints.{Prints}
+use Rattle.reply_lines.proofs.Stores.{sets-append}
 use Rattle.listing.specs.declared.Stage.the-variants.{Start, After, Done}
 use Rattle.listing.specs.declared.State.{State}
 use Rattle.listing.specs.declared.Entry.{Entry}

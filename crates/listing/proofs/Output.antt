@@ -22,20 +22,22 @@ use Rattle.meaning.specs.Listing.{unlisted, printedListing, BreachesPrints, rep
 use Rattle.meaning.proofs.Promised.{promise-one}
 use Rattle.ledger.specs.declared.ContextColumns.{ContextColumns}
 use Rattle.ledger.specs.declared.ClauseColumns.{ClauseColumns}
-use Rattle.ledger.specs.declared.Refusal.{Refusal}
-use Rattle.ledger.specs.Phases.{meant}
+use Rattle.replies.specs.declared.Refusal.{Refusal}
+use Rattle.replies.specs.Told.{meant}
 use Rattle.further.proofs.Answers.{marks-of-one}
 use Rattle.differing.proofs.Knowing.{knows-start}
 use Rattle.search.specs.Finding.{foundBy}
-use Rattle.finder.specs.Claims.{said, asked, MarkedIn, Ruled, Prepares}
-use Rattle.finder.specs.declared.Answer.{Answer}
-use Rattle.finder.specs.declared.Answer.the-variants as A
-use Rattle.finder.specs.declared.Prepared.{Prepared}
-use Rattle.finder.proofs.Preparing.{Stands, ready-stands, ready-replies, ready-consistent, refused-answers, ruled-one}
+use Rattle.prepared.specs.Claims.{said, asked, Ruled, Prepares}
+use Rattle.finder.specs.Claims.{MarkedIn}
+use Rattle.prepared.specs.declared.Answer.{Answer}
+use Rattle.prepared.specs.declared.Answer.the-variants as A
+use Rattle.prepared.specs.declared.Prepared.{Prepared}
+use Rattle.prepared.proofs.Preparing.{Stands, ready-stands, ready-consistent, refused-answers, ruled-one}
+use Rattle.finder.proofs.Ready.{ready-replies}
 use Rattle.finder.proofs.Judging.{lent}
-use Rattle.normaliser.specs.Prints.{Prints}
-use Rattle.normaliser.specs.declared.printed.Line.{Line}
-use Rattle.normaliser.proofs.Printing.{prints-one}
+use Rattle.reply_lines.specs.Prints.{Prints}
+use Rattle.reply_lines.specs.declared.Line.{Line}
+use Rattle.reply_lines.proofs.Printing.{prints-one}
 use Rattle.listing.specs.declared.State.{State}
 use Rattle.listing.specs.declared.opening.Opened.{Opened}
 use Rattle.listing.specs.Filling.{Fitted, Lent, startState, Pieces, over}

@@ -20,8 +20,8 @@ use Rattle.meaning.specs.Listing.{Goes, ends, goes, linesOf}
 use Rattle.ledger.specs.declared.ContextColumns.{ContextColumns}
 use Rattle.ledger.specs.declared.ClauseColumns.{ClauseColumns}
 use Rattle.search.specs.Finding.{foundBy, laterBy}
-use Rattle.finder.specs.Claims.{said, asked}
-use Rattle.normaliser.proofs.Lines.{length-frame}
+use Rattle.prepared.specs.Claims.{said, asked}
+use Rattle.reply_lines.proofs.Lines.{length-frame}
 use Rattle.listing.specs.declared.Stage.{Stage}
 use Rattle.listing.specs.declared.Stage.the-variants.{Start, After, Done}
 use Rattle.listing.specs.declared.State.{State}

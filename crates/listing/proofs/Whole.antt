@@ -24,7 +24,7 @@ use Rattle.meaning.proofs.Built.{length-rows, length-patterns}
 use Rattle.ledger.specs.declared.ContextColumns.{ContextColumns}
 use Rattle.ledger.specs.declared.ClauseColumns.{ClauseColumns}
 use Rattle.search.specs.Finding.{foundBy}
-use Rattle.finder.specs.Claims.{said, asked}
+use Rattle.prepared.specs.Claims.{said, asked}
 use Rattle.listing.specs.Filling.{Fitted, startState, Pieces}
 use Rattle.listing.proofs.Pieces.{onward, placed-front, start-comes, pieces-lines, pieces-end}
 

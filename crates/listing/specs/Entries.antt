@@ -17,8 +17,8 @@ use Rattle.search.specs.Finding.{unfitReply}
 use Rattle.search.specs.declared.Kind.{Kind}
 use Rattle.search.specs.declared.Kind.the-variants as S
 use Rattle.search.specs.declared.Reply.{Reply}
-use Rattle.normaliser.specs.Pieces.{low8}
-use Rattle.normaliser.specs.Prints.{Prints}
+use Rattle.reply_lines.specs.Pieces.{low8}
+use Rattle.reply_lines.specs.Prints.{Prints}
 use Rattle.listing.specs.declared.Stage.the-variants.{After}
 use Rattle.listing.specs.declared.State.{State}
 use Rattle.listing.specs.declared.Entry.{Entry}

@@ -21,7 +21,7 @@ use Rattle.ledger.specs.declared.ContextColumns.{ContextColumns}
 use Rattle.ledger.specs.declared.ClauseColumns.{ClauseColumns}
 use Rattle.differing.specs.Knowing.{Lends, Knows}
 use Rattle.search.specs.Finding.{foundBy, laterBy}
-use Rattle.finder.specs.Claims.{said, asked}
+use Rattle.prepared.specs.Claims.{said, asked}
 use Rattle.listing.specs.declared.Stage.{Stage}
 use Rattle.listing.specs.declared.Stage.the-variants.{Start, After, Done}
 use Rattle.listing.specs.declared.State.{State}

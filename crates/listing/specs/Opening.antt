@@ -14,14 +14,15 @@ use Rattle.meaning.specs.Equality.{Promise}
 use Rattle.meaning.specs.Rules.{nothing}
 use Rattle.meaning.specs.Text.{narrow, read}
 use Rattle.meaning.specs.Replies.{refused, refusal, printed, inputLimit}
-use Rattle.ledger.specs.declared.Refusal.{Refusal}
-use Rattle.ledger.specs.Phases.{meant}
+use Rattle.replies.specs.declared.Refusal.{Refusal}
+use Rattle.replies.specs.Told.{meant}
 use Rattle.reader.specs.Reads.{contextOf, clauseIn}
-use Rattle.finder.specs.Claims.{said, MarkedIn, Ruled}
-use Rattle.finder.specs.declared.Answer.{Answer}
-use Rattle.finder.specs.declared.Answer.the-variants.{Ready, Refused}
-use Rattle.normaliser.specs.Prints.{Prints}
-use Rattle.normaliser.specs.declared.printed.Line.{Line}
+use Rattle.prepared.specs.Claims.{said, Ruled}
+use Rattle.finder.specs.Claims.{MarkedIn}
+use Rattle.prepared.specs.declared.Answer.{Answer}
+use Rattle.prepared.specs.declared.Answer.the-variants.{Ready, Refused}
+use Rattle.reply_lines.specs.Prints.{Prints}
+use Rattle.reply_lines.specs.declared.Line.{Line}
 use Rattle.listing.specs.declared.State.{State}
 use Rattle.listing.specs.declared.opening.Opened.{Opened}
 use Rattle.listing.specs.Filling.{startState, stateAfter}

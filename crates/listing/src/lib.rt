@@ -3,15 +3,15 @@ pub mod opening;
 
 use ledger::ClauseColumns;
 use ledger::ContextColumns;
-use normaliser::printed::breach_line;
-use normaliser::printed::none_line;
+use reply_lines::breach_line;
+use reply_lines::none_line;
 use search::Kind;
 ghost use mathlib.Core.Path.{_≡_};
 ghost use lib.ListN.{take};
 ghost use lib.Seq.{sets};
 ghost use Rattle.meaning.specs.Rules.{nothing};
 ghost use Rattle.search.specs.Finding.{foundBy, laterBy};
-ghost use Rattle.finder.specs.Claims.{said, asked};
+ghost use Rattle.prepared.specs.Claims.{said, asked};
 ghost use Rattle.listing.specs.Filling.{Lent, doneBy, startState, stateAfter, Fills};
 ghost use Rattle.listing.specs.Entries.{Answered, Tells, EntryAt, Lined};
 

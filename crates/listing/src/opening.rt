@@ -2,19 +2,16 @@
 use crate::State;
 use crate::done;
 use crate::start;
-use finder::Answer;
 use ledger::ClauseColumns;
 use ledger::ContextColumns;
-use ledger::Refusal;
-use normaliser::printed::Line;
-use normaliser::printed::refusal_line;
+use prepared::Answer;
+use replies::INPUT_LIMIT;
+use replies::Refusal;
+use reply_lines::Line;
+use reply_lines::no_line;
+use reply_lines::refusal_line;
 ghost use mathlib.Core.Path.{_≡_};
-ghost use mathlib.Core.List.{[]};
-ghost use Rattle.normaliser.specs.Prints.{Prints};
 ghost use Rattle.listing.specs.Opening.{limitedBy, Headed, Opens};
-
-// The most bytes that the program takes.
-const MOST_INPUT: usize = 16384;
 
 // The refusal's line, or none, and where the list begins.
 struct Head {
@@ -32,20 +29,11 @@ pub struct Opened {
     pub busy: [u8; 255],
 }
 
-fn no_line() -> Line
-    ensures { λ r. ⌜ Prints [] (r .bytes) (r .len) ⌝ }
-{
-    Line {
-        bytes: [0; 32],
-        len: 0,
-    }
-}
-
 // Refusal 11 before everything else.
 fn limit(length: usize, answer: Answer) -> Answer
     ensures { λ r. ⌜ r ≡ limitedBy length answer ⌝ }
 {
-    if MOST_INPUT < length {
+    if INPUT_LIMIT < length {
         let x = Refusal {
             number: 11,
             line: 0,
@@ -77,7 +65,7 @@ fn begin(answer: Answer) -> Head
 pub fn open(input: &[u8]) -> Opened
     ensures opens { λ o. ⌜ Opens (now (input .entry)) o ⌝ }
 {
-    let p = finder::prepare(input);
+    let p = prepared::prepare(input);
     let first = p.answer;
     let answer = limit(input.len(), first);
     let h = begin(answer);

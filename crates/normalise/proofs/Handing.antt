@@ -12,7 +12,7 @@ use borrow.Author.Tests.{not-true}
 use lib.ListN.{length, take, replicate, length-replicate}
 use Rattle.meaning.specs.Text.{narrow}
 use Rattle.meaning.specs.Replies.{refused, printed, NormalisePrints, Written, wrote, unwritten}
-use Rattle.normaliser.specs.Prints.{Prints}
+use Rattle.reply_lines.specs.Prints.{Prints}
 use Rattle.printing.specs.Claims.{normalLimit, PartsOf, PrintsNormal}
 use Rattle.printing.specs.declared.Parts.{Parts}
 use Rattle.printing.proofs.Outputs.{output-fits, output-prints}

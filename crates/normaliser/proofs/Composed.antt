@@ -19,19 +19,19 @@ use Rattle.meaning.specs.ByTable.{clashOf}
 use Rattle.meaning.specs.Replies.{Settled, contradicts, normal, abnormal, refusal, Leaves, stays, Writes, NormalisesTo}
 use Rattle.meaning.proofs.Apartness.{clash-first}
 use Rattle.meaning.proofs.Answered.{settles-by, writes-one}
-use Rattle.ledger.specs.Phases.{meant}
+use Rattle.replies.specs.Told.{meant}
 use Rattle.ledger.specs.Columns.{contextColumns}
 use Rattle.reader.specs.Reads.{Reads, toldBy, toldOf, contextOf}
 use Rattle.reader.specs.declared.Answer.the-variants as R
 use Rattle.reader.specs.declared.Reading.{Reading}
-use Rattle.ledger.specs.declared.Refusal.{Refusal}
+use Rattle.replies.specs.declared.Refusal.{Refusal}
 use Rattle.ledger.specs.declared.ContextColumns.{ContextColumns}
 use Rattle.closing.specs.Claims.{clashing}
 use Rattle.closing.specs.declared.Contradiction.{Contradiction}
 use Rattle.closing.specs.declared.Contradiction.the-variants.{First, Clear}
-use Rattle.finder.specs.Claims.{said, Held, ClosedIn}
+use Rattle.prepared.specs.Claims.{said, Held, ClosedIn}
 use Rattle.closing.specs.declared.Classes.{Classes}
-use Rattle.finder.proofs.Holding.{read-said, read-held, classes-promise, clash-high}
+use Rattle.prepared.proofs.Holding.{read-said, read-held, classes-promise, clash-high}
 use Rattle.normaliser.specs.Claims.{Represented, textBy, writtenBy, Settles}
 use Rattle.normaliser.specs.Normals.{Writable, normalText, writtenOf}
 use Rattle.normaliser.specs.declared.Written.{Written}

@@ -1,12 +1,8 @@
 -- The root of the laws.
-pub mod Stores
-pub mod Lines
-pub mod Printing
 pub mod Merging
 pub mod Turns
 pub mod Halves
 pub mod Gathering
-pub mod Running
 pub mod Rows
 pub mod Pairs
 pub mod Texts

@@ -15,10 +15,11 @@ use lib.Dec.{eqb}
 use lib.ListN.{length, getD, take, length-append}
 use Rattle.meaning.specs.Equality.{repAt}
 use Rattle.meaning.specs.Writing.{frame}
-use Rattle.normaliser.specs.Pieces.{low8, Put, LineRoom, run, joinPiece, keyPiece}
+use Rattle.reply_lines.specs.Pieces.{low8, Put, LineRoom, run}
+use Rattle.normaliser.specs.Pieces.{joinPiece, keyPiece}
 use Rattle.normaliser.specs.Rooms.{joinSize, joinsSize, JoinRoom, JoinsRoom, KeysRoom}
-use Rattle.normaliser.proofs.Lines.{length-frame}
-use Rattle.normaliser.proofs.Running.{Running, running-start, running-room, running-step, running-done, run-snoc}
+use Rattle.reply_lines.proofs.Lines.{length-frame}
+use Rattle.reply_lines.proofs.Running.{Running, running-start, running-room, running-step, running-done, run-snoc}
 use Rattle.normaliser.proofs.Rows.{Sizing}
 
 -- ---- an equation, where there is one

@@ -13,10 +13,11 @@ use lib.ListN.{length, getD, take, drop, length-append, length-drop}
 use lib.Seq.{drop-cons, length-take-le}
 use Rattle.meaning.specs.Columns.{argsAt}
 use Rattle.meaning.specs.Writing.{frame}
-use Rattle.normaliser.specs.Pieces.{low8, Room, Put, LineRoom, run, rowPiece}
+use Rattle.reply_lines.specs.Pieces.{low8, Room, Put, LineRoom, run}
+use Rattle.normaliser.specs.Pieces.{rowPiece}
 use Rattle.normaliser.specs.Rooms.{rowFields, rowsSize, RowsFit, RowRoom}
-use Rattle.normaliser.proofs.Lines.{length-frame}
-use Rattle.normaliser.proofs.Running.{Running, running-start, running-room, running-step, running-done, run-snoc}
+use Rattle.reply_lines.proofs.Lines.{length-frame}
+use Rattle.reply_lines.proofs.Running.{Running, running-start, running-room, running-step, running-done, run-snoc}
 
 module _ (counts args : List ℕ) (n : ℕ) (fit : RowsFit counts args n) (i : ℕ) (h : i < n) where
   four-args : drop (i * 4) args ≡ getD args (i * 4) 0 ∷ getD args (i * 4 + 1) 0 ∷ getD args (i * 4 + 2) 0 ∷ getD args (i * 4 + 3) 0 ∷ drop (i * 4 + 4) args

@@ -20,13 +20,14 @@ use Rattle.meaning.specs.Writing.{frame, rowsText, statementsText, contextText,
 use Rattle.meaning.specs.Members.{In}
 use Rattle.meaning.proofs.Built.{length-rows as rows-long}
 use Rattle.meaning.proofs.Sorted.{in-map, map-in, Sooner, Ascending, in-sorted, sorted-in, sorted-ascending, ascending-one}
-use Rattle.normaliser.specs.Pieces.{run, rowPiece, joinPiece, keyPiece}
+use Rattle.reply_lines.specs.Pieces.{run}
+use Rattle.normaliser.specs.Pieces.{rowPiece, joinPiece, keyPiece}
 use Rattle.normaliser.specs.Rooms.{RowsFit, rowsSize, joinsSize}
 use Rattle.normaliser.specs.Sorting.{Rising, Sorts}
 use Rattle.normaliser.specs.Keyed.{pairKey, keysOf, StatementsFit, KeysIn}
 use Rattle.normaliser.specs.Normals.{normalText, textOf, Writable}
 use Rattle.normaliser.proofs.Merging.{in-append}
-use Rattle.normaliser.proofs.Running.{run-snoc}
+use Rattle.reply_lines.proofs.Running.{run-snoc}
 use Rattle.normaliser.proofs.Rows.{args-length, length-rows}
 use Rattle.normaliser.proofs.Pairs.{length-joins, length-keys}
 use Rattle.normaliser.proofs.Gathering.{differences-append}

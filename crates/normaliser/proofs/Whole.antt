@@ -9,11 +9,12 @@ use native.Mathlib.Omega.{arith}
 use borrow.Author.Needs.{needs}
 use lib.ListN.{length, length-append}
 use Rattle.meaning.specs.Replies.{Leaves, fits, short, normal, wrote, unwritten, refusal}
-use Rattle.normaliser.specs.Pieces.{Room, Put, run, rowPiece, joinPiece, keyPiece}
+use Rattle.reply_lines.specs.Pieces.{Room, Put, run}
+use Rattle.normaliser.specs.Pieces.{rowPiece, joinPiece, keyPiece}
 use Rattle.normaliser.specs.Rooms.{rowsSize, joinsSize, JoinsRoom, KeysRoom}
 use Rattle.normaliser.specs.Keyed.{KeysIn}
 use Rattle.normaliser.specs.Normals.{normalText, textOf, Writable, TextRoom}
-use Rattle.normaliser.proofs.Stores.{put-then, put-length, put-whole}
+use Rattle.reply_lines.proofs.Stores.{put-then, put-length, put-whole}
 use Rattle.normaliser.proofs.Texts.{text-pieces, length-text}
 
 module _ (symbols counts args : List ℕ) (n : ℕ) (table keys : List ℕ) (m : ℕ) (lent : List ℕ) (t : TextRoom symbols counts args n table keys m lent) where

@@ -9,8 +9,8 @@ use Rattle.meaning.specs.Equality.{repAt, Promise}
 use Rattle.meaning.specs.Writing.{contextText, normalOf}
 use Rattle.meaning.specs.Replies as M
 use Rattle.meaning.specs.Replies.{Normalised, Settled, Leaves}
-use Rattle.ledger.specs.Phases.{meant}
-use Rattle.finder.specs.Claims.{said, Held}
+use Rattle.replies.specs.Told.{meant}
+use Rattle.prepared.specs.Claims.{said, Held}
 use Rattle.ledger.specs.declared.ContextColumns.{ContextColumns}
 use Rattle.normaliser.specs.declared.Written.{Written}
 use Rattle.normaliser.specs.declared.Written.the-variants.{Wrote, Refused}

@@ -9,7 +9,8 @@ use Rattle.meaning.specs.Equality.{repAt}
 use Rattle.meaning.specs.Columns.{contextFrom}
 use Rattle.meaning.specs.Writing.{contextText, normalOf}
 use Rattle.meaning.specs.Replies.{Written, wrote, unwritten, refusal}
-use Rattle.normaliser.specs.Pieces.{Room, run, rowPiece, joinPiece, keyPiece}
+use Rattle.reply_lines.specs.Pieces.{Room, run}
+use Rattle.normaliser.specs.Pieces.{rowPiece, joinPiece, keyPiece}
 use Rattle.normaliser.specs.Rooms.{RowsFit}
 use Rattle.normaliser.specs.Keyed.{StatementsFit}
 use Rattle.normaliser.specs.declared.normal.Answer.{Answer}

@@ -11,7 +11,8 @@ use Prim.Native.Nat.{ℕ, zero, suc, _+_, _*_, _/_, _≤_, _<_}
 use lib.Dec.{eqb}
 use lib.ListN.{length, getD}
 use Rattle.meaning.specs.Equality.{repAt}
-use Rattle.normaliser.specs.Pieces.{low8, Room, run, rowPiece, joinPiece, keyPiece}
+use Rattle.reply_lines.specs.Pieces.{low8, Room, run}
+use Rattle.normaliser.specs.Pieces.{rowPiece, joinPiece, keyPiece}
 
 -- four of them, and four arguments, used or not
 abbrev pub rowFields : List ℕ → List ℕ → List ℕ → ℕ → List ℕ

@@ -1,18 +1,16 @@
 // The normaliser: the one canonical text of a context, or a refusal.
-mod frames;
 mod keys;
 mod normal;
-pub mod printed;
 
 use closing::Contradiction;
 use ledger::ContextColumns;
-use ledger::Refusal;
 use normal::Answer;
 use normal::write_normal;
+use replies::Refusal;
 ghost use Rattle.meaning.specs.Text.{narrow};
 ghost use Rattle.meaning.specs.Replies.{normal, Leaves, Writes};
 ghost use Rattle.normaliser.specs.Normals.{writtenOf};
-ghost use Rattle.finder.specs.Claims.{Held};
+ghost use Rattle.prepared.specs.Claims.{Held};
 ghost use Rattle.normaliser.specs.Claims.{Represented, textBy, Settles, writtenBy};
 
 // How many bytes were written, or the refusal.
@@ -47,9 +45,9 @@ fn settle(c: ContextColumns, lent: &mut [u8]) -> Written
     requires { ⌜ Held c ⌝ }
     ensures { λ r. ⌜ Settles c (now (lent .entry)) r (now (lent .exit)) ⌝ }
 {
-    let closed = finder::classes(c);
+    let closed = prepared::classes(c);
     let table = closed.table;
-    let clash = finder::contradiction(c, table);
+    let clash = prepared::contradiction(c, table);
     if let Contradiction::First(n) = clash {
         let x = Refusal {
             number: 9,

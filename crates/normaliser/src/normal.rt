@@ -1,15 +1,16 @@
 // The normal text of a context whose representatives are known.
-use crate::frames::high;
-use crate::frames::low;
-use crate::frames::put_frame;
 use crate::keys::Keys;
 use crate::keys::sorted_keys;
+use reply_lines::hex::high;
+use reply_lines::hex::low;
+use reply_lines::hex::put_frame;
 ghost use mathlib.Core.List.{[], _∷_};
 ghost use mathlib.Core.Path.{_≡_};
 ghost use Prim.Native.Nat.{_+_, _*_, _<_, _≤_, _/_, _%_};
 ghost use Rattle.meaning.specs.Writing.{frame};
 ghost use Rattle.meaning.specs.Replies.{Leaves, normal};
-ghost use Rattle.normaliser.specs.Pieces.{Room, Put, run, rowPiece, joinPiece, keyPiece, LineRoom};
+ghost use Rattle.reply_lines.specs.Pieces.{Room, Put, run, LineRoom};
+ghost use Rattle.normaliser.specs.Pieces.{rowPiece, joinPiece, keyPiece};
 ghost use Rattle.normaliser.specs.Rooms.{rowFields, rowsSize, joinSize, joinsSize, RowsFit, RowRoom, JoinRoom, JoinsRoom, KeysRoom};
 ghost use Rattle.normaliser.specs.Normals.{Writable, normalText, textOf, TextRoom, writtenOf};
 

@@ -17,8 +17,7 @@ use Rattle.meaning.specs.Formed.{Fit}
 use Rattle.meaning.specs.Text as M
 use Rattle.meaning.specs.Text.{narrow, read, faulty, taken}
 use Rattle.meaning.specs.Writing.{contextText, normalOf}
-use Rattle.meaning.specs.Replies.{Written as MW}
-use Rattle.meaning.specs.Replies.{refused, refusal, printed, Normalised, normal, abnormal, Settled, contradicts, settles, NormalisesTo, Normalises, Leaves, fits, short, stays, wrote, unwritten, Writes, printedNormal, NormalisePrints, long, normalises}
+use Rattle.meaning.specs.Replies.{Written as MW, refused, refusal, printed, Normalised, normal, abnormal, Settled, contradicts, settles, NormalisesTo, Normalises, Leaves, fits, short, stays, wrote, unwritten, Writes, printedNormal, NormalisePrints, long, normalises}
 use Rattle.meaning.specs.Closing.{close}
 use Rattle.meaning.proofs.Promised.{closing-represents, closing-promise}
 use Rattle.meaning.proofs.Taken.{read-formed}
@@ -27,14 +26,14 @@ use Rattle.meaning.proofs.Answered.{writes-one}
 use Rattle.meaning.proofs.Computed.{repOf}
 use Rattle.meaning.proofs.Kept.{read-kept}
 use Rattle.meaning.proofs.Bounds.{normal-bytes}
-use Rattle.ledger.specs.Phases.{meant}
-use Rattle.ledger.specs.declared.Refusal.{Refusal}
+use Rattle.replies.specs.Told.{meant}
+use Rattle.replies.specs.declared.Refusal.{Refusal}
 use Rattle.normaliser.specs.Claims.{writtenBy}
-use Rattle.normaliser.specs.Prints.{Prints}
+use Rattle.reply_lines.specs.Prints.{Prints}
 use Rattle.normaliser.specs.declared.Written.{Written}
 use Rattle.normaliser.specs.declared.Written.the-variants.{Wrote, Refused}
-use Rattle.normaliser.specs.declared.printed.Line.{Line}
-use Rattle.normaliser.proofs.Printing.{line-one}
+use Rattle.reply_lines.specs.declared.Line.{Line}
+use Rattle.reply_lines.proofs.Printing.{line-one}
 use Rattle.printing.specs.Claims.{normalLimit, PartsOf, Answers, over, within, PrintsNormal}
 use Rattle.printing.specs.declared.Parts.{Parts}
 

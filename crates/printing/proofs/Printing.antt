@@ -1,6 +1,6 @@
 -- The ways out of the function that gives the finder program's line.
---     prints-long, prints-breach, prints-clear, prints-refused   input that is too long; a breach; none; a refusal
---     prints-found-one                                           two lines for one input are equal
+--     prints-long, prints-reply    input that is too long; a reply of the finder
+--     prints-found-one             two lines for one input are equal
 -- Assumes nothing.
 use mathlib.Core.List.{List, [], _∷_, map}
 use mathlib.Core.Path.{_≡_, refl, sym, ap, ap₂, subst, _∙_}
@@ -17,15 +17,16 @@ use Rattle.meaning.specs.Replies.{Reply, breach, none, refused, refusal, printe
 use Rattle.meaning.proofs.Table.{length-terms}
 use Rattle.meaning.proofs.Kept.{read-kept}
 use Rattle.meaning.proofs.Answered.{replies-one}
-use Rattle.ledger.specs.Phases.{meant}
-use Rattle.ledger.specs.declared.Refusal.{Refusal}
-use Rattle.finder.specs.Claims.{toldBy, toldOf, Finds}
-use Rattle.finder.specs.declared.Outcome.the-variants as O
-use Rattle.finder.specs.declared.Reply.{Reply as Answer}
-use Rattle.normaliser.specs.Pieces.{low8}
-use Rattle.normaliser.specs.Prints.{Prints}
-use Rattle.normaliser.specs.declared.printed.Line.{Line}
-use Rattle.normaliser.proofs.Printing.{line-one}
+use Rattle.replies.specs.Told.{meant, toldBy, toldOf}
+use Rattle.replies.specs.declared.Refusal.{Refusal}
+use Rattle.finder.specs.Claims.{Finds}
+use Rattle.replies.specs.declared.Outcome.{Outcome}
+use Rattle.replies.specs.declared.Outcome.the-variants as O
+use Rattle.replies.specs.declared.Reply.{Reply as Answer}
+use Rattle.reply_lines.specs.Pieces.{low8}
+use Rattle.reply_lines.specs.Prints.{Prints, lineBy}
+use Rattle.reply_lines.specs.declared.Line.{Line}
+use Rattle.reply_lines.proofs.Printing.{line-one}
 use Rattle.printing.specs.Claims.{PrintsFound}
 
 -- ---- a breach's rows are bytes
@@ -65,7 +66,7 @@ module _ (input : List ℕ) (r : Line) (short : length input ≤ 16384) (x : Ans
   with-reply : Prints (printed (finds .reply)) (r .bytes) (r .len) → PrintsFound input r
   with-reply p = record { line = printed (finds .reply); prints = replies short (finds .reply) (finds .replies); front = p }
 
-  pub prints-breach : (n m : ℕ) → x .outcome ≡ O.Breach n → m ≡ n → Prints (printed (breach (map low8 (take m (x .places))))) (r .bytes) (r .len) → PrintsFound input r
+  prints-breach : (n m : ℕ) → x .outcome ≡ O.Breach n → m ≡ n → Prints (printed (breach (map low8 (take m (x .places))))) (r .bytes) (r .len) → PrintsFound input r
   unfolding placesOf
   prints-breach n m e f p = go (finds .reply) refl
     where
@@ -80,7 +81,7 @@ module _ (input : List ℕ) (r : Line) (short : length input ≤ 16384) (x : Ans
       go (refused f) q =
           absurd (let v : 8 ∷ n ∷ [] ≡ 10 ∷ f .number ∷ f .place ∷ f .offset ∷ [] = sym (ap toldBy e) ∙ finds .told ∙ ap toldOf q in let z : _≡_ {A = ℕ} 8 10 = cc in omega arith)
 
-  pub prints-clear : x .outcome ≡ O.Clear → Prints (printed none) (r .bytes) (r .len) → PrintsFound input r
+  prints-clear : x .outcome ≡ O.Clear → Prints (printed none) (r .bytes) (r .len) → PrintsFound input r
   prints-clear e p = go (finds .reply) refl
     where
       go : (y : Reply) → finds .reply ≡ y → PrintsFound input r
@@ -89,7 +90,7 @@ module _ (input : List ℕ) (r : Line) (short : length input ≤ 16384) (x : Ans
       go (refused f) q =
           absurd (let v : 9 ∷ [] ≡ 10 ∷ f .number ∷ f .place ∷ f .offset ∷ [] = sym (ap toldBy e) ∙ finds .told ∙ ap toldOf q in let z : _≡_ {A = ℕ} 9 10 = cc in omega arith)
 
-  pub prints-refused : (f : Refusal) → x .outcome ≡ O.Refused f → Prints (printed (refused (meant f))) (r .bytes) (r .len) → PrintsFound input r
+  prints-refused : (f : Refusal) → x .outcome ≡ O.Refused f → Prints (printed (refused (meant f))) (r .bytes) (r .len) → PrintsFound input r
   prints-refused f e p = go (finds .reply) refl
     where
       go : (y : Reply) → finds .reply ≡ y → PrintsFound input r
@@ -104,6 +105,14 @@ module _ (input : List ℕ) (r : Line) (short : length input ≤ 16384) (x : Ans
           absurd (let v : 10 ∷ f .number ∷ f .line ∷ f .offset ∷ [] ≡ 8 ∷ length a ∷ [] = sym (ap toldBy e) ∙ finds .told ∙ ap toldOf q in let z : _≡_ {A = ℕ} 10 8 = cc in omega arith)
       go none q = absurd (let v : 10 ∷ f .number ∷ f .line ∷ f .offset ∷ [] ≡ 9 ∷ [] = sym (ap toldBy e) ∙ finds .told ∙ ap toldOf q in let z : _≡_ {A = ℕ} 10 9 = cc in omega arith)
 
+  pub prints-reply : Prints (lineBy (x .outcome) (x .places)) (r .bytes) (r .len) → PrintsFound input r
+  prints-reply p = go (x .outcome) refl
+    where
+      go : (o : Outcome) → x .outcome ≡ o → PrintsFound input r
+      go (O.Breach n) e = prints-breach n n e refl (subst (λ (o : Outcome). Prints (lineBy o (x .places)) (r .bytes) (r .len)) e p)
+      go O.Clear e = prints-clear e (subst (λ (o : Outcome). Prints (lineBy o (x .places)) (r .bytes) (r .len)) e p)
+      go (O.Refused f) e = prints-refused f e (subst (λ (o : Outcome). Prints (lineBy o (x .places)) (r .bytes) (r .len)) e p)
+
 -- ---- one line
 
 find-prints-one : (input l m : List ℕ) → FindPrints narrow input l → FindPrints narrow input m → l ≡ m
@@ -117,4 +126,4 @@ prints-found-one input r s p q =
     let e : q .line ≡ p .line = find-prints-one input (q .line) (p .line) (q .prints) (p .prints) in
     line-one r s (p .front) (subst (λ (l : List ℕ). Prints l (s .bytes) (s .len)) e (q .front))
 
-pub ruleset mine = (needs, prints-long, prints-breach, prints-clear, prints-refused)
+pub ruleset mine = (needs, prints-long, prints-reply)

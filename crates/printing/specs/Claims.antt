@@ -9,8 +9,8 @@ use Prim.Native.Nat.{ℕ, _≤_, _<_}
 use lib.ListN.{length}
 use Rattle.meaning.specs.Text.{narrow}
 use Rattle.meaning.specs.Replies.{refused, refusal, printed, inputLimit, FindPrints, Written, wrote, unwritten, Writes}
-use Rattle.normaliser.specs.Prints.{Prints}
-use Rattle.normaliser.specs.declared.printed.Line.{Line}
+use Rattle.reply_lines.specs.Prints.{Prints}
+use Rattle.reply_lines.specs.declared.Line.{Line}
 use Rattle.printing.specs.declared.Parts.{Parts}
 
 pub record PrintsFound (input : List ℕ) (r : Line) : Type 0 where

@@ -1,20 +1,14 @@
 // What the programs print for an input.
-use finder::Outcome;
-use ledger::Refusal;
 use normaliser::Written;
-use normaliser::printed::Line;
-use normaliser::printed::breach_line;
-use normaliser::printed::none_line;
-use normaliser::printed::refusal_line;
+use replies::INPUT_LIMIT;
+use reply_lines::Line;
+use reply_lines::no_line;
+use reply_lines::over_line;
+use reply_lines::refusal_line;
+use reply_lines::reply_line;
 ghost use mathlib.Core.Path.{_≡_};
-ghost use mathlib.Core.List.{[]};
 ghost use lib.ListN.{replicate};
-ghost use Rattle.meaning.specs.Replies.{refused, refusal, printed};
-ghost use Rattle.normaliser.specs.Prints.{Prints};
 ghost use Rattle.printing.specs.Claims.{normalLimit, PrintsFound, PrintsNormal};
-
-// The most bytes that a program takes.
-const MOST_INPUT: usize = 16384;
 
 // The most bytes that a normal text has.
 pub const NORMAL_SPACE: usize = 7898;
@@ -25,48 +19,17 @@ pub struct Parts {
     pub line: Line,
 }
 
-fn wide(x: u8) -> usize
-    ensures { λ r. ⌜ r ≡ x ⌝ }
-{
-    x as usize
-}
-
-// Refusal 11.
-fn over_line() -> Line
-    ensures { λ r. ⌜ Prints (printed (refused (refusal 11 0))) (r .bytes) (r .len) ⌝ }
-{
-    let x = Refusal {
-        number: 11,
-        line: 0,
-        offset: 0,
-    };
-    refusal_line(x)
-}
-
 // What the finder program prints.
 pub fn find_prints(input: &[u8]) -> Line
     ensures prints { λ r. ⌜ PrintsFound (now (input .entry)) r ⌝ }
 {
-    if MOST_INPUT < input.len() {
+    if INPUT_LIMIT < input.len() {
         return over_line();
     }
     let r = finder::find(input);
     let outcome = r.outcome;
     let places = r.places;
-    match outcome {
-        Outcome::Breach(n) => breach_line(wide(n), places),
-        Outcome::Clear => none_line(),
-        Outcome::Refused(x) => refusal_line(x),
-    }
-}
-
-fn no_line() -> Line
-    ensures { λ r. ⌜ Prints [] (r .bytes) (r .len) ⌝ }
-{
-    Line {
-        bytes: [0; 32],
-        len: 0,
-    }
+    reply_line(outcome, places)
 }
 
 // Space for any normal text.
@@ -80,7 +43,7 @@ pub fn normal_space() -> [u8; NORMAL_SPACE]
 pub fn normalise_prints(input: &[u8], space: &mut [u8]) -> Parts
     ensures prints { λ r. ⌜ PrintsNormal (now (input .entry)) (now (space .entry)) r (now (space .exit)) ⌝ }
 {
-    if MOST_INPUT < input.len() {
+    if INPUT_LIMIT < input.len() {
         let line = over_line();
         return Parts { text: 0, line };
     }

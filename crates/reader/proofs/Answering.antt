@@ -18,7 +18,7 @@ use Rattle.reader.specs.declared.Answer.the-variants.{Taken, Refused}
 use Rattle.ledger.specs.declared.ContextColumns.{ContextColumns}
 use Rattle.ledger.specs.declared.ClauseColumns.{ClauseColumns}
 use Rattle.reader.specs.declared.Reading.{Reading}
-use Rattle.ledger.specs.declared.Refusal.{Refusal}
+use Rattle.replies.specs.declared.Refusal.{Refusal}
 use Rattle.ledger.specs.declared.context.Next.{Next}
 use Rattle.ledger.specs.declared.context.Next.the-variants as N
 use Rattle.ledger.specs.declared.context.Place.{Place}

@@ -15,7 +15,7 @@ use Rattle.meaning.specs.Text.{Kind, Read, fieldAt, isListed, listedAs, kinds, 
 use Rattle.frames.specs.Choice.{choose}
 use Rattle.frames.specs.Lines.{Legible, Illegible, valueAt, kindAt, kindOf}
 use Rattle.ledger.specs.Phases.{termSized, sizedOf, Rising, Stands, LastFault}
-use Rattle.ledger.specs.declared.Refusal.{Refusal}
+use Rattle.replies.specs.declared.Refusal.{Refusal}
 use Rattle.ledger.specs.declared.ContextColumns.{ContextColumns}
 use Rattle.ledger.specs.declared.ClauseColumns.{ClauseColumns}
 use Rattle.frames.specs.declared.lines.Kind as K

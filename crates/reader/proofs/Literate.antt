@@ -29,7 +29,7 @@ use Rattle.ledger.specs.declared.ContextColumns.{ContextColumns}
 use Rattle.ledger.specs.declared.context.Next.{Next}
 use Rattle.ledger.specs.declared.context.Next.the-variants as N
 use Rattle.ledger.specs.declared.context.Place.{Place}
-use Rattle.ledger.specs.declared.Refusal.{Refusal}
+use Rattle.replies.specs.declared.Refusal.{Refusal}
 use Rattle.ledger.specs.declared.ClauseColumns.{ClauseColumns}
 use Rattle.frames.specs.declared.entries.Pair.{Pair}
 use Rattle.frames.specs.declared.entries.Paired.{Paired}

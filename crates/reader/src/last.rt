@@ -5,7 +5,7 @@ use frames::lines::field;
 use frames::lines::kind_at;
 use frames::lines::kind_of;
 use frames::lines::line_at;
-use ledger::Refusal;
+use replies::Refusal;
 ghost use mathlib.Core.Path.{_≡_};
 ghost use Prim.Native.Nat.{_<_};
 ghost use lib.ListN.{length};

@@ -30,7 +30,8 @@ use Rattle.closing.specs.Claims.{Closes}
 use Rattle.closing.specs.declared.Answer.{Answer}
 use Rattle.closing.specs.declared.Answer.the-variants as A
 use Rattle.closing.specs.declared.Classes.{Classes}
-use Rattle.finder.specs.Claims.{said, asked, toldOf, ClosedIn}
+use Rattle.prepared.specs.Claims.{said, asked, ClosedIn}
+use Rattle.replies.specs.Told.{toldOf}
 use Rattle.records.specs.declared.Row.{Row}
 use Rattle.records.specs.declared.Statements.{Statements}
 use Rattle.records.specs.Records.{rowOf, contextOf, FitRows}

@@ -18,11 +18,12 @@ use Rattle.meaning.specs.Replies.{breach, none, refused, refusal, placesOf, emp
 use Rattle.meaning.specs.Closing.{count}
 use Rattle.meaning.proofs.Closes.{length-count, repAt-count}
 use Rattle.ledger.specs.declared.ClauseColumns.{ClauseColumns}
-use Rattle.ledger.specs.declared.Refusal.{Refusal}
+use Rattle.replies.specs.declared.Refusal.{Refusal}
 use Rattle.ledger.specs.Columns.{noClause}
 use Rattle.closing.specs.declared.Answer.{Answer}
 use Rattle.closing.specs.declared.Answer.the-variants.{Closed, Unfit}
-use Rattle.finder.specs.Claims.{toldOf, ClosedIn}
+use Rattle.replies.specs.Told.{toldOf}
+use Rattle.prepared.specs.Claims.{ClosedIn}
 use Rattle.records.specs.declared.Row.{Row}
 use Rattle.records.specs.declared.Statements.{Statements}
 use Rattle.records.specs.Records.{noRow, contextOf, FitRows}

@@ -29,8 +29,8 @@ use Rattle.columns.specs.Fit.{Decides, FitContext, FitClause}
 use Rattle.columns.proofs.Deciding.{decides-not}
 use Rattle.ledger.specs.declared.ContextColumns.{ContextColumns}
 use Rattle.ledger.specs.declared.ClauseColumns.{ClauseColumns}
-use Rattle.ledger.specs.declared.Refusal.{Refusal}
-use Rattle.ledger.specs.Phases.{meant}
+use Rattle.replies.specs.declared.Refusal.{Refusal}
+use Rattle.replies.specs.Told.{meant}
 use Rattle.closing.specs.Claims.{Closes, clashing}
 use Rattle.closing.specs.declared.Answer.{Answer as Closing}
 use Rattle.closing.specs.declared.Answer.the-variants as C
@@ -42,12 +42,12 @@ use Rattle.search.specs.Finding.{foundBy}
 use Rattle.search.specs.declared.Kind.{Kind}
 use Rattle.search.specs.declared.Kind.the-variants as S
 use Rattle.search.specs.declared.Reply.{Reply as Searched}
-use Rattle.finder.specs.Claims.{said, asked, ClosedIn, Asks}
-use Rattle.finder.specs.Ruling.{Low, judgedBy}
-use Rattle.finder.specs.declared.Answer.{Answer}
-use Rattle.finder.specs.declared.Answer.the-variants as A
-use Rattle.finder.proofs.Holding.{clash-high}
-use Rattle.finder.proofs.Preparing.{rows-long}
+use Rattle.prepared.specs.Claims.{said, asked, ClosedIn, Asks}
+use Rattle.prepared.specs.Ruling.{Low, judgedBy}
+use Rattle.prepared.specs.declared.Answer.{Answer}
+use Rattle.prepared.specs.declared.Answer.the-variants as A
+use Rattle.prepared.proofs.Holding.{clash-high}
+use Rattle.prepared.proofs.Preparing.{rows-long}
 use Rattle.recorded.specs.Claims.{unfitReply, refusedWith, answeredWith, FitRule, judged, unfit, FindsOver}
 use Rattle.recorded.specs.declared.Outcome.the-variants as O
 use Rattle.recorded.specs.declared.Reply.{Reply}

@@ -6,7 +6,7 @@ use borrow.Author.Needs.{needs}
 use Rattle.ledger.specs.declared.ContextColumns.{ContextColumns}
 use Rattle.ledger.specs.declared.ClauseColumns.{ClauseColumns}
 use Rattle.closing.specs.declared.Classes.{Classes}
-use Rattle.finder.specs.Claims.{ClosedIn}
+use Rattle.prepared.specs.Claims.{ClosedIn}
 use Rattle.records.specs.declared.Statements.{Statements}
 use Rattle.records.specs.declared.Table.{Table}
 use Rattle.records.specs.Layouts.{spreadOf}

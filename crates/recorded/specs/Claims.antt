@@ -16,7 +16,7 @@ use Rattle.meaning.specs.Replies as M
 use Rattle.meaning.specs.Replies.{placesOf, Judged}
 use Rattle.ledger.specs.declared.ContextColumns.{ContextColumns}
 use Rattle.ledger.specs.declared.ClauseColumns.{ClauseColumns}
-use Rattle.ledger.specs.declared.Refusal.{Refusal}
+use Rattle.replies.specs.declared.Refusal.{Refusal}
 use Rattle.columns.specs.Fit.{FitContext, FitClause}
 use Rattle.closing.specs.declared.Answer.{Answer}
 use Rattle.closing.specs.declared.Answer.the-variants as A
@@ -24,7 +24,8 @@ use Rattle.closing.specs.declared.Classes.{Classes}
 use Rattle.closing.specs.Claims.{Own}
 use Rattle.search.specs.declared.Kind.{Kind}
 use Rattle.search.specs.declared.Kind.the-variants as S
-use Rattle.finder.specs.Claims.{said, asked, toldOf}
+use Rattle.prepared.specs.Claims.{said, asked}
+use Rattle.replies.specs.Told.{toldOf}
 use Rattle.records.specs.declared.Row.{Row}
 use Rattle.records.specs.declared.Statements.{Statements}
 use Rattle.records.specs.Records.{contextOf, FitRows}

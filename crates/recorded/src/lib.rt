@@ -2,14 +2,14 @@
 use closing::Classes;
 use ledger::ClauseColumns;
 use ledger::ContextColumns;
-use ledger::Refusal;
 use records::Row;
 use records::Statements;
 use records::Table;
+use replies::Refusal;
 use search::Kind;
 ghost use mathlib.Core.Path.{_≡_};
 ghost use Rattle.columns.specs.Fit.{Decides};
-ghost use Rattle.finder.specs.Claims.{ClosedIn};
+ghost use Rattle.prepared.specs.Claims.{ClosedIn};
 ghost use Rattle.records.specs.Layouts.{spreadOf};
 ghost use Rattle.recorded.specs.Claims.{unfitReply, refusedWith, answeredWith, FitRule, FindsOver, FindsRows, ClosedRows};
 
@@ -84,16 +84,16 @@ pub fn find_over(c: ContextColumns, k: ClauseColumns) -> Reply
     if !fits(k) {
         return unfit();
     }
-    let closed = finder::classes(c);
+    let closed = prepared::classes(c);
     let answer = closed.answer;
     if let closing::Answer::Unfit = answer {
         return unfit();
     }
     let table = closed.table;
-    let clash = finder::contradiction(c, table);
+    let clash = prepared::contradiction(c, table);
     let literals = k.literals;
-    let ruling = finder::judge(literals, clash);
-    if let finder::Answer::Refused(x) = ruling {
+    let ruling = prepared::judge(literals, clash);
+    if let prepared::Answer::Refused(x) = ruling {
         return refused(x);
     }
     let r = finder::hunt(c, table, k);
@@ -107,7 +107,7 @@ pub(crate) fn close_table(t: Table, s: Statements) -> Classes
     ensures closes { λ r. ⌜ ClosedIn (spreadOf t s) r ⌝ }
 {
     let c = records::spread(t, s);
-    finder::classes(c)
+    prepared::classes(c)
 }
 
 // The first breach of a rule in a table.

@@ -2,14 +2,14 @@
 // a line has the text's name, the finder's reply, and the normaliser's refusal or whether it wrote
 // that normal text. The space that is lent is as long as the second file, so that a normal text
 // without its last byte (`.short`) shows refusal 10.
-use finder::Outcome;
-use ledger::Refusal;
 use libc::STDOUT_FILENO;
 use normaliser::Written;
-use normaliser::printed::Line;
-use normaliser::printed::breach_line;
-use normaliser::printed::none_line;
-use normaliser::printed::refusal_line;
+use replies::Outcome;
+use replies::Refusal;
+use reply_lines::Line;
+use reply_lines::breach_line;
+use reply_lines::none_line;
+use reply_lines::refusal_line;
 
 // The first n bytes but the last of them.
 fn put(bytes: &[u8], n: usize) {

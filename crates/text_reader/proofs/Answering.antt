@@ -14,7 +14,7 @@ use Rattle.told.specs.Numbers.{numbersOf}
 use Rattle.told.specs.Reads.{Reads}
 use Rattle.told.specs.declared.Answer.the-variants as A
 use Rattle.told.specs.declared.Filled.{Filled}
-use Rattle.told.specs.declared.Refusal.{Refusal}
+use Rattle.replies.specs.declared.Refusal.{Refusal}
 use Rattle.told.specs.declared.Told.{Told}
 use Rattle.text_reader.specs.Lines.{Ready, Taken, Ends, toldRefused}
 use Rattle.text_reader.specs.State.{Within, numbersIn}

@@ -31,7 +31,7 @@ use Rattle.frames.specs.declared.lines.Line.{Line}
 use Rattle.frames.specs.declared.lines.Line.the-variants as L
 use Rattle.runs.specs.Runs as R
 use Rattle.told.specs.Numbers.{rowNumbers, saidNumbers, patternNumbers, literalNumbers}
-use Rattle.told.specs.declared.Refusal.{Refusal}
+use Rattle.replies.specs.declared.Refusal.{Refusal}
 use Rattle.text_reader.specs.Adding.{termNumbers, pairNumbers, variableNumbers, NoteFits, NoteMade, PieceFits, PieceAdded}
 use Rattle.text_reader.specs.Agree.{Noted, Used}
 use Rattle.text_reader.specs.Lines.{entryIn, faultIn, Adds, Verdict, EntryIs, Filled, Stands, Moved, Steps, Ready, Ends}

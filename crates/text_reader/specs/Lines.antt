@@ -17,7 +17,7 @@ use Rattle.meaning.specs.Text.{Read, row, statement, pattern, literal, listedAs
 use Rattle.runs.specs.Limits.{mostRows, mostStatements, mostPatterns, mostLiterals, rowSize, saidSize, patternSize, literalSize}
 use Rattle.told.specs.Numbers.{rowNumbers, saidNumbers, patternNumbers, literalNumbers, numbersOf}
 use Rattle.told.specs.declared.Answer.the-variants.{Refused}
-use Rattle.told.specs.declared.Refusal.{Refusal}
+use Rattle.replies.specs.declared.Refusal.{Refusal}
 use Rattle.told.specs.declared.Told.{Told}
 use Rattle.text_reader.specs.Adding.{termNumbers, pairNumbers, variableNumbers}
 use Rattle.text_reader.specs.Agree.{Used}

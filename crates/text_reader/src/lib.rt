@@ -7,6 +7,7 @@ mod state;
 
 use lines::Step;
 use lines::take_line;
+use replies::Refusal;
 use runs::limits::LITERAL;
 use runs::limits::LITERAL_RUN;
 use runs::limits::PATTERN;
@@ -21,7 +22,6 @@ use state::State;
 use state::start;
 use told::Answer;
 use told::Filled;
-use told::Refusal;
 use told::Told;
 ghost use mathlib.Core.Path.{_≡_};
 ghost use Rattle.told.specs.Reads.{Reads};

@@ -14,17 +14,16 @@ use Rattle.meaning.specs.Text.{narrow}
 use Rattle.meaning.specs.Replies as M
 use Rattle.meaning.specs.Replies.{breach, none, refused, Replies, FindPrints, placesOf}
 use Rattle.meaning.proofs.Rightly.{RepliesRightly}
-use Rattle.finder.specs.Claims.{toldBy, toldOf}
-use Rattle.finder.specs.declared.Outcome.{Outcome}
-use Rattle.finder.specs.declared.Outcome.the-variants.{Breach, Clear, Refused}
-use Rattle.finder.specs.declared.Reply.{Reply}
-use Rattle.normaliser.specs.declared.printed.Line.{Line}
+use Rattle.replies.specs.Told.{toldBy, toldOf}
+use Rattle.replies.specs.declared.Outcome.{Outcome}
+use Rattle.replies.specs.declared.Outcome.the-variants.{Breach, Clear, Refused}
+use Rattle.replies.specs.declared.Reply.{Reply}
+use Rattle.reply_lines.specs.declared.Line.{Line}
 use Rattle.printing.specs.Claims.{PrintsFound}
 use Rattle.intake.specs.Machine.{memory, fresh, fed}
 use Rattle.intake.proofs.Standing.{Parsed, stands-start, stands-fed, parsed}
 use Rattle.verifying.specs.Replies.{VerifyPrints}
-use Rattle.verifying.specs.Claims.{Prints}
-use Rattle.verifying.specs.declared.Line.{Line as VerifyLine}
+use Rattle.reply_lines.specs.Prints.{Prints}
 use Rattle.verifying.proofs.Verifying.{verify-prints}
 use Rattle.theorems.specs.Said.{replyBy, Find, finderOf, shownIn, Spaces, ended, PrintsAfter}
 
@@ -67,11 +66,11 @@ module _ (text firsts seconds thirds : List ℕ) (spaces : Spaces text firsts se
       (stands-fed [] input (memory fresh text firsts seconds thirds)
       (stands-start text firsts seconds thirds (spaces .text-long) (spaces .firsts-long) (spaces .seconds-long) (spaces .thirds-long)))
 
-  pub verify-shown : (l : VerifyLine) → PrintsAfter (ended text firsts seconds thirds input) l → VerifyPrints narrow input (take (l .len) (l .bytes))
+  pub verify-shown : (l : Line) → PrintsAfter (ended text firsts seconds thirds input) l → VerifyPrints narrow input (shownIn l)
   verify-shown l p = shown (verify-prints input (ended text firsts seconds thirds input) l parsed-whole p)
     where
-      shown : (line : List ℕ) × VerifyPrints narrow input line × Prints line (l .bytes) (l .len) → VerifyPrints narrow input (take (l .len) (l .bytes))
+      shown : (line : List ℕ) × VerifyPrints narrow input line × Prints line (l .bytes) (l .len) → VerifyPrints narrow input (shownIn l)
       shown w =
           subst (VerifyPrints narrow input)
-          (sym (ap (take (l .len)) (w .2 .front) ∙ take-at (w .0) (replicate (16 - length (w .0)) 0) (l .len) (sym (w .2 .size))))
+          (sym (ap (take (l .len)) (w .2 .front) ∙ take-at (w .0) (replicate (32 - length (w .0)) 0) (l .len) (sym (w .2 .size))))
           (w .1)

@@ -10,10 +10,10 @@ use Rattle.meaning.specs.Replies.{breach, Replies, FindPrints, NormalisePrints}
 use Rattle.meaning.specs.Listing.{BreachesPrints}
 use Rattle.meaning.specs.Demands.{RefusesRightly, LeavesRightly, FindsFirst, KeepsMeaning}
 use Rattle.meaning.proofs.Rightly.{right-refuses, right-leaves, right-finds, right-keeps}
-use Rattle.finder.specs.declared.Outcome.the-variants.{Breach}
-use Rattle.finder.specs.declared.Reply.{Reply}
+use Rattle.replies.specs.declared.Outcome.the-variants.{Breach}
+use Rattle.replies.specs.declared.Reply.{Reply}
 use Rattle.normaliser.specs.declared.Written.{Written}
-use Rattle.normaliser.specs.declared.printed.Line.{Line}
+use Rattle.reply_lines.specs.declared.Line.{Line}
 use Rattle.printing.specs.Claims.{PrintsFound, PrintsNormal}
 use Rattle.printing.specs.declared.Parts.{Parts}
 use Rattle.printing.proofs.Outputs.{output-prints}
@@ -36,7 +36,6 @@ use Rattle.framing.specs.Filling.{framesFrom}
 use Rattle.framing.specs.declared.opening.Opened.{Opened as GroundsOpened}
 use Rattle.framing.proofs.Output.{opened-found, opened-alone}
 use Rattle.verifying.specs.Replies.{VerifyPrints}
-use Rattle.verifying.specs.declared.Line.{Line as VerifyLine}
 use Rattle.theorems.specs.Said.{Find, finderOf, Normalise, normaliserOf, shownIn, Spaces, ended, PrintsAfter}
 use Rattle.theorems.proofs.Contracts.{finds-rightly, found-shown, verify-shown}
 
@@ -88,6 +87,6 @@ grounds-prints input firsts seconds thirds o x y z room w =
     (found-shown input (o .line) (opened-found input firsts seconds thirds o x y z room w), opened-alone input firsts seconds thirds o x y z w)
 
 -- What `verify` prints for an input that was fed to it whole, in whatever pieces.
-pub verify-prints : (text firsts seconds thirds : List ℕ) → Spaces text firsts seconds thirds → (input : List ℕ) (l : VerifyLine)
-    → PrintsAfter (ended text firsts seconds thirds input) l → VerifyPrints narrow input (take (l .len) (l .bytes))
+pub verify-prints : (text firsts seconds thirds : List ℕ) → Spaces text firsts seconds thirds → (input : List ℕ) (l : Line)
+    → PrintsAfter (ended text firsts seconds thirds input) l → VerifyPrints narrow input (shownIn l)
 verify-prints = verify-shown

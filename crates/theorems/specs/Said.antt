@@ -13,18 +13,17 @@ use Rattle.meaning.specs.Text.{narrow}
 use Rattle.meaning.specs.Replies as M
 use Rattle.meaning.specs.Replies.{breach, none, refused, inputLimit, Writes}
 use Rattle.meaning.specs.Demands.{Finder, Normaliser}
-use Rattle.ledger.specs.Phases.{meant}
+use Rattle.replies.specs.Told.{meant}
 use Rattle.finder.specs.Claims.{Finds}
-use Rattle.finder.specs.declared.Outcome.{Outcome}
-use Rattle.finder.specs.declared.Outcome.the-variants.{Breach, Clear, Refused}
-use Rattle.finder.specs.declared.Reply.{Reply}
+use Rattle.replies.specs.declared.Outcome.{Outcome}
+use Rattle.replies.specs.declared.Outcome.the-variants.{Breach, Clear, Refused}
+use Rattle.replies.specs.declared.Reply.{Reply}
 use Rattle.normaliser.specs.Claims.{writtenBy}
 use Rattle.normaliser.specs.declared.Written.{Written}
-use Rattle.normaliser.specs.declared.printed.Line.{Line}
+use Rattle.reply_lines.specs.declared.Line.{Line}
 use Rattle.intake.specs.Machine.{Memory, memory, fresh, fed, finished}
 use Rattle.verifying.specs.Replies.{stepLimit}
 use Rattle.verifying.specs.Claims.{PrintsFor}
-use Rattle.verifying.specs.declared.Line.{Line as VerifyLine}
 
 abbrev pub replyBy : Outcome → List ℕ → M.Reply
 replyBy (Breach n) places = breach (take n places)
@@ -60,5 +59,5 @@ pub record Spaces (text firsts seconds thirds : List ℕ) : Type 0 where
 abbrev pub ended : List ℕ → List ℕ → List ℕ → List ℕ → List ℕ → Memory
 ended text firsts seconds thirds input = finished (fed input (memory fresh text firsts seconds thirds))
 
-abbrev pub PrintsAfter : Memory → VerifyLine → Type 0
+abbrev pub PrintsAfter : Memory → Line → Type 0
 PrintsAfter m l = PrintsFor (m .parser) (m .text) (m .firsts) (m .seconds) (m .thirds) l

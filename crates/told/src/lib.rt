@@ -1,15 +1,9 @@
 // What reading a text tells: that it is taken, or its refusal; and the runs that say its context and its rule.
+use replies::Refusal;
 use runs::limits::LITERAL_RUN;
 use runs::limits::PATTERN_RUN;
 use runs::limits::ROW_RUN;
 use runs::limits::SAID_RUN;
-
-// Which refusal, the line that it names, counted from 1, and the byte within that line, counted from 0.
-pub struct Refusal {
-    pub number: u8,
-    pub line: u16,
-    pub offset: u16,
-}
 
 pub enum Answer {
     Taken,

@@ -25,8 +25,9 @@ use Rattle.intake.specs.declared.Parser.{Parser}
 use Rattle.intake.proofs.Ways.{fed-alike}
 use Rattle.intake.proofs.Standing.{Stands, stands-start, stands-fed, Parsed, parsed}
 use Rattle.verifying.specs.Replies.{VerifyPrints}
-use Rattle.verifying.specs.Claims.{Prints, PrintsFor}
-use Rattle.verifying.specs.declared.Line.{Line}
+use Rattle.verifying.specs.Claims.{PrintsFor}
+use Rattle.reply_lines.specs.Prints.{Prints}
+use Rattle.reply_lines.specs.declared.Line.{Line}
 use Rattle.verifying.proofs.Verifying.{verify-prints}
 use Rattle.channels.specs.declared.input.Got.{Got}
 use Rattle.channels.specs.declared.input.Got.the-variants as G
@@ -183,11 +184,11 @@ run-verifies {t} {q} {text} {fs} {ss} {ts} {fs′} {ss′} {ts′} {r} d e f =
 
 module _ (r : Line) (v : Verifies r) where
   pub line-fits : r .len ≤ length (r .bytes)
-  line-fits = front-fits (v .line) (replicate (16 - length (v .line)) 0) (r .bytes) (r .len) (v .prints .size) (v .prints .front)
+  line-fits = front-fits (v .line) (replicate (32 - length (v .line)) 0) (r .bytes) (r .len) (v .prints .size) (v .prints .front)
 
   pub line-verified : Verified (take (r .len) (r .bytes))
   line-verified =
-      subst Verified (sym (front-taken (v .line) (replicate (16 - length (v .line)) 0) (r .bytes) (r .len) (v .prints .size) (v .prints .front))) (v .verified)
+      subst Verified (sym (front-taken (v .line) (replicate (32 - length (v .line)) 0) (r .bytes) (r .len) (v .prints .size) (v .prints .front))) (v .verified)
 
 pub ruleset mine =
     (needs, first-count, takes-within, takes-read, turn-ended, turn-more, turn-failed, piece-taken, piece-failed, going-start, going-next, left-more, left-ended, left-failed, left-less, all-taken, text-same, firsts-same, seconds-same, thirds-same, ready-taken, spaces-there, run-verifies, line-fits, line-verified)

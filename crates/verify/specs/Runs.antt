@@ -17,8 +17,8 @@ use Rattle.meaning.specs.Replies.{inputLimit}
 use Rattle.intake.specs.Machine.{Memory, memory, fresh, fed}
 use Rattle.intake.specs.declared.Parser.{Parser}
 use Rattle.verifying.specs.Replies.{stepLimit, VerifyPrints}
-use Rattle.verifying.specs.Claims.{Prints}
-use Rattle.verifying.specs.declared.Line.{Line}
+use Rattle.reply_lines.specs.Prints.{Prints}
+use Rattle.reply_lines.specs.declared.Line.{Line}
 use Rattle.channels.specs.Taking.{pieceSpace}
 use Rattle.channels.specs.declared.input.Got.{Got}
 use Rattle.channels.specs.declared.input.Got.the-variants as G

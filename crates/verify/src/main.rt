@@ -10,7 +10,8 @@ use channels::telling::FAILED;
 use channels::telling::report;
 use channels::telling::tell;
 use intake::Parser;
-use verifying::Line;
+use replies::INPUT_LIMIT;
+use reply_lines::Line;
 ghost use mathlib.Core.Path.{_≡_};
 ghost use Prim.Native.Nat.{_<_};
 ghost use Rattle.intake.specs.Machine.{memory, fresh};
@@ -18,9 +19,7 @@ ghost use Rattle.channels.specs.Taking.{Read};
 ghost use Rattle.channels.specs.Sending.{Delivers};
 ghost use Rattle.verify.specs.Runs.{turnOf, leftBy, TakesPiece, TakesAll, Spaces, Ready, Verified, Verifies};
 
-// The most bytes of a text, and the most steps.
-const TEXT: usize = 16384;
-
+// The most steps.
 const STEPS: usize = 278528;
 
 // After a piece there may be more; the input ended with it; or it could not be read.
@@ -171,7 +170,7 @@ fn run(text: &mut [u8], firsts: &mut [u64], seconds: &mut [u64], thirds: &mut [u
 }
 
 fn main() {
-    let mut text = [0u8; TEXT];
+    let mut text = [0u8; INPUT_LIMIT];
     let mut firsts = [0u64; STEPS];
     let mut seconds = [0u64; STEPS];
     let mut thirds = [0u64; STEPS];

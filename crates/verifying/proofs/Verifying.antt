@@ -4,7 +4,7 @@
 -- Assumes nothing.
 use mathlib.Core.Bool.{Bool, true, false}
 use mathlib.Core.List.{List, [], _∷_, append-nil}
-use mathlib.Core.Path.{_≡_, refl, ap, ap₂, sym, _∙_, subst}
+use mathlib.Core.Path.{_≡_, refl, ap, sym, _∙_, subst}
 use Prim.Native.Nat.{ℕ, zero, suc, _%_, _≤_, _<_}
 use native.Mathlib.Omega.{arith}
 use lib.Dec.{ltb}
@@ -33,8 +33,10 @@ use Rattle.intake.proofs.Filled.{Sized, stored-all}
 use Rattle.intake.proofs.Noting.{notes-count}
 use Rattle.intake.proofs.Standing.{Parsed, words-long}
 use Rattle.verifying.specs.Replies.{bytesOf, printed, column, VerifyPrints, long, many, judges as judged-as}
-use Rattle.verifying.specs.Claims.{Prints, lowest, lineOf, PrintsFor, over, past, answers}
-use Rattle.verifying.specs.declared.Line.{Line}
+use Rattle.verifying.specs.Claims.{lowest, lineOf, PrintsFor, over, past, answers}
+use Rattle.reply_lines.specs.Prints.{Prints}
+use Rattle.reply_lines.specs.declared.Line.{Line}
+use Rattle.reply_lines.proofs.Printing.{line-one}
 
 -- ---- sizes
 
@@ -165,18 +167,15 @@ verify-prints input m r w (answers h k o q p) =
 
 -- ---- one line
 
-prints-one : (line : List ℕ) (r s : Line) → Prints line (r .bytes) (r .len) → Prints line (s .bytes) (s .len) → r ≡ s
-prints-one line r s p q = ap₂ (λ (b : List ℕ) (n : ℕ). record { bytes = b; len = n }) (p .front ∙ sym (q .front)) (p .size ∙ sym (q .size))
-
 pub reply-one : (p : Parser) (text firsts seconds thirds : List ℕ) (r s : Line) → PrintsFor p text firsts seconds thirds r → PrintsFor p text firsts seconds thirds s → r ≡ s
-reply-one p text firsts seconds thirds r s (over h x) (over k y) = prints-one _ r s x y
+reply-one p text firsts seconds thirds r s (over h x) (over k y) = line-one r s x y
 reply-one p text firsts seconds thirds r s (over h x) (past k l y) = absurd (omega arith)
 reply-one p text firsts seconds thirds r s (over h x) (answers k l o w y) = absurd (omega arith)
 reply-one p text firsts seconds thirds r s (past h i x) (over k y) = absurd (omega arith)
-reply-one p text firsts seconds thirds r s (past h i x) (past k l y) = prints-one _ r s x y
+reply-one p text firsts seconds thirds r s (past h i x) (past k l y) = line-one r s x y
 reply-one p text firsts seconds thirds r s (past h i x) (answers k l o w y) = absurd (omega arith)
 reply-one p text firsts seconds thirds r s (answers h i o w x) (over k y) = absurd (omega arith)
 reply-one p text firsts seconds thirds r s (answers h i o w x) (past k l y) = absurd (omega arith)
 reply-one p text firsts seconds thirds r s (answers h i o w x) (answers k l u v y) =
     let e : o ≡ u = judges-one (take (p .head .size) text) (p .places) (take (p .steps) firsts) seconds thirds (p .noted .conclusions) o u (w .judges) (v .judges) in
-    prints-one (lineOf u) r s (subst (λ (z : Outcome). Prints (lineOf z) (r .bytes) (r .len)) e x) y
+    line-one r s (subst (λ (z : Outcome). Prints (lineOf z) (r .bytes) (r .len)) e x) y

@@ -1,30 +1,25 @@
 -- What the function claims that gives the output of `verify`.
---     Prints        a line stands at the front of 16 bytes, zeros after it
 --     lowest        each number's low byte
 --     lineOf        the line of an answer
 --     Answered      the judgement on what was taken in
 --     PrintsFor     the line for it
 -- Assumes nothing.
-use mathlib.Core.List.{List, _∷_, _++_, map}
-use mathlib.Core.Path.{_≡_}
-use Prim.Native.Nat.{ℕ, _-_, _%_, _≤_, _<_}
-use lib.ListN.{length, take, replicate}
+use mathlib.Core.List.{List, _∷_, map}
+use Prim.Native.Nat.{ℕ, _%_, _≤_, _<_}
+use lib.ListN.{take}
 use Rattle.meaning.specs.Writing.{frame}
 use Rattle.meaning.specs.Replies.{refusal}
 use Rattle.meaning.specs.Grounds.{Verdict, caseOf, detailsOf}
 use Rattle.verifier.specs.Claims.{verdictOf}
-use Rattle.ledger.specs.Phases.{meant}
+use Rattle.replies.specs.Told.{meant}
 use Rattle.judging.specs.Judgements.{refused}
 use Rattle.judging.specs.Claims.{JudgesTo}
 use Rattle.judging.specs.declared.Outcome.{Outcome}
 use Rattle.judging.specs.declared.Outcome.the-variants.{Judged, Refused}
 use Rattle.intake.specs.declared.Parser.{Parser}
+use Rattle.reply_lines.specs.Prints.{Prints}
 use Rattle.verifying.specs.Replies.{printed}
-use Rattle.verifying.specs.declared.Line.{Line}
-
-pub record Prints (line bytes : List ℕ) (len : ℕ) : Type 0 where
-  pub size : len ≡ length line
-  pub front : bytes ≡ line ++ replicate (16 - length line) 0
+use Rattle.reply_lines.specs.declared.Line.{Line}
 
 abbrev pub lowest : List ℕ → List ℕ
 lowest l = map (λ x. x % 256) l

@@ -1,30 +1,21 @@
 // What the program `verify` prints.
-mod lines;
-
 use intake::Parser;
 use judging::Outcome;
 use judging::judge;
-use lines::line_six;
-use lines::line_three;
-use lines::line_two;
+use replies::INPUT_LIMIT;
+use reply_lines::Line;
+use reply_lines::line_of;
+use reply_lines::over_line;
+use reply_lines::refusal_line;
 use verifier::Answer;
 ghost use mathlib.Core.Path.{_≡_};
-ghost use Prim.Native.Nat.{_-_, _/_, _%_, _≤_, min};
+ghost use Prim.Native.Nat.{_-_, _%_, _≤_, min};
 ghost use lib.ListN.{length, take, drop};
 ghost use Rattle.verifier.specs.Claims.{verdictOf};
-ghost use Rattle.judging.specs.Judgements.{refused};
-ghost use Rattle.verifying.specs.Replies.{printed};
-ghost use Rattle.verifying.specs.Claims.{Prints, verdictLine, lineOf, Answered, PrintsFor};
+ghost use Rattle.reply_lines.specs.Prints.{Prints};
+ghost use Rattle.verifying.specs.Claims.{verdictLine, lineOf, Answered, PrintsFor};
 
-// The first `len` bytes are the line, and the others are 0.
-pub struct Line {
-    pub bytes: [u8; 16],
-    pub len: usize,
-}
-
-// The most bytes of a text, and the most steps.
-const MOST_TEXT: usize = 16384;
-
+// The most steps.
 const MOST_STEPS: usize = 278528;
 
 fn low(n: usize) -> u8
@@ -33,46 +24,27 @@ fn low(n: usize) -> u8
     (n % 256) as u8
 }
 
-fn high_byte(x: u16) -> u8
-    ensures { λ r. ⌜ r ≡ x / 256 ⌝ }
-{
-    (x / 256) as u8
-}
-
-fn low_byte(x: u16) -> u8
-    ensures { λ r. ⌜ r ≡ x % 256 ⌝ }
-{
-    (x % 256) as u8
-}
-
 fn verdict_line(a: Answer) -> Line
     ensures { λ r. ⌜ Prints (verdictLine (verdictOf a)) (r .bytes) (r .len) ⌝ }
 {
     match a {
-        Answer::Accepted => line_two(11, 0),
-        Answer::Unassigned(v) => line_three(11, 1, low(v)),
+        Answer::Accepted => line_of([11, 0, 0, 0, 0, 0, 0, 0], 2),
+        Answer::Unassigned(v) => {
+            let b = low(v);
+            line_of([11, 1, b, 0, 0, 0, 0, 0], 3)
+        }
         Answer::Bad(n) => {
             let b = low(n / 16777216);
             let c = low(n / 65536);
             let d = low(n / 256);
             let e = low(n);
-            line_six(11, 2, b, c, d, e)
+            line_of([11, 2, b, c, d, e, 0, 0], 6)
         }
-        Answer::Unconcluded(n) => line_three(11, 3, low(n)),
+        Answer::Unconcluded(n) => {
+            let b = low(n);
+            line_of([11, 3, b, 0, 0, 0, 0, 0], 3)
+        }
     }
-}
-
-fn refusal_line(number: u8, place: u16, offset: u16) -> Line
-    ensures { λ r. ⌜ Prints (printed (refused (record { number = number; place = place; offset = offset }))) (r .bytes) (r .len) ⌝ }
-{
-    line_six(
-        10,
-        number,
-        high_byte(place),
-        low_byte(place),
-        high_byte(offset),
-        low_byte(offset),
-    )
 }
 
 fn outcome_line(o: Outcome) -> Line
@@ -80,7 +52,7 @@ fn outcome_line(o: Outcome) -> Line
 {
     match o {
         Outcome::Judged(a) => verdict_line(a),
-        Outcome::Refused(x) => refusal_line(x.number, x.line, x.offset),
+        Outcome::Refused(x) => refusal_line(x),
     }
 }
 
@@ -159,11 +131,11 @@ pub fn reply<'a>(
     ensures prints { λ r. ⌜ PrintsFor p (now (text .entry)) (now (firsts .entry)) (now (seconds .entry)) (now (thirds .entry)) r ⌝ }
 {
     let head = p.head;
-    if MOST_TEXT < head.size {
-        return refusal_line(11, 0, 0);
+    if INPUT_LIMIT < head.size {
+        return over_line();
     }
     if MOST_STEPS < p.steps {
-        return refusal_line(11, 0, 0);
+        return over_line();
     }
     let o = outcome(p, text, firsts, seconds, thirds);
     outcome_line(o)

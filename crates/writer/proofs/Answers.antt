@@ -31,10 +31,11 @@ use Rattle.judging.specs.Claims.{JudgesTo}
 use Rattle.judging.specs.declared.Outcome.{Outcome as Judgement}
 use Rattle.judging.specs.declared.Outcome.the-variants as W
 use Rattle.judging.proofs.Answers.{judges-one}
-use Rattle.finder.specs.Claims.{toldBy, toldOf, Finds}
-use Rattle.finder.specs.declared.Outcome.{Outcome}
-use Rattle.finder.specs.declared.Outcome.the-variants as O
-use Rattle.finder.proofs.Preparing.{found-never}
+use Rattle.replies.specs.Told.{toldBy, toldOf}
+use Rattle.finder.specs.Claims.{Finds}
+use Rattle.replies.specs.declared.Outcome.{Outcome}
+use Rattle.replies.specs.declared.Outcome.the-variants as O
+use Rattle.prepared.proofs.Preparing.{found-never}
 use Rattle.finder.proofs.Judging.{told-one}
 use Rattle.writer.specs.Claims.{most, space, Answers, refuses, lacks, replies, Bare, stepsIn, ShownFor, Leaves, Writes}
 use Rattle.writer.specs.Drawing.{outcomeBy}

@@ -17,9 +17,9 @@ use Rattle.meaning.specs.Replies.{Reply, breach, none, refused, refusal, places
 use Rattle.meaning.specs.Context.{Context}
 use Rattle.meaning.specs.Grounds.{stepAt, Each, Conclusion, conclusionFor, literalAt, Concludes, Verdict, accepted, Verified, accepts, unassigns, refuses, leaves-open}
 use Rattle.meaning.specs.GroundColumns.{stepsFrom}
-use Rattle.ledger.specs.declared.Refusal.{Refusal}
-use Rattle.finder.specs.Claims.{toldOf}
-use Rattle.finder.specs.declared.Outcome.the-variants as O
+use Rattle.replies.specs.declared.Refusal.{Refusal}
+use Rattle.replies.specs.Told.{toldOf}
+use Rattle.replies.specs.declared.Outcome.the-variants as O
 use Rattle.finder.proofs.Judging.{told-one}
 use Rattle.judging.specs.Claims.{concludedIn}
 pub use Rattle.judging.proofs.Controls.{lullaby, lullaby-short, lullaby-breach}

@@ -21,7 +21,7 @@ use Rattle.meaning.specs.GroundColumns.{pairsFrom}
 use Rattle.meaning.proofs.Built.{length-rows, length-patterns, length-literals, literals-at}
 use Rattle.ledger.specs.declared.ContextColumns.{ContextColumns}
 use Rattle.ledger.specs.declared.ClauseColumns.{ClauseColumns}
-use Rattle.finder.specs.Claims.{said, asked}
+use Rattle.prepared.specs.Claims.{said, asked}
 use Rattle.numbering.specs.Entries.{Filled, Fillable}
 use Rattle.numbering.specs.Pairs.{pairsOf, Held}
 use Rattle.numbering.specs.declared.pairs.Pairs.{Pairs}

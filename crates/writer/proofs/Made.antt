@@ -7,10 +7,10 @@ use Prim.Native.Nat.{ℕ, min}
 use borrow.Author.Needs.{needs}
 use lib.Dec.{ltb}
 use lib.ListN.{length, replicate}
-use Rattle.ledger.specs.declared.Refusal.{Refusal}
+use Rattle.replies.specs.declared.Refusal.{Refusal}
 use Rattle.verifier.specs.declared.Conclusions.{Conclusions}
-use Rattle.finder.specs.declared.Outcome.{Outcome}
-use Rattle.finder.specs.declared.Outcome.the-variants.{Refused}
+use Rattle.replies.specs.declared.Outcome.{Outcome}
+use Rattle.replies.specs.declared.Outcome.the-variants.{Refused}
 use Rattle.writer.specs.Claims.{most, space, noConclusions}
 use Rattle.writer.specs.Drawing.{bareWith, refusedWith}
 use Rattle.writer.specs.declared.Grounds.{Grounds}

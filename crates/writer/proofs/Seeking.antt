@@ -21,9 +21,10 @@ use Rattle.search.specs.Finding.{foundBy}
 use Rattle.search.specs.declared.Kind.{Kind}
 use Rattle.search.specs.declared.Kind.the-variants as S
 use Rattle.search.specs.declared.Reply.{Reply as Searched}
-use Rattle.finder.specs.Claims.{said, asked, toldBy, toldOf, Asks}
-use Rattle.finder.specs.declared.Outcome.{Outcome}
-use Rattle.finder.specs.declared.Outcome.the-variants as O
+use Rattle.prepared.specs.Claims.{said, asked, Asks}
+use Rattle.replies.specs.Told.{toldBy, toldOf}
+use Rattle.replies.specs.declared.Outcome.{Outcome}
+use Rattle.replies.specs.declared.Outcome.the-variants as O
 use Rattle.writer.specs.Drawing.{bareWith, Broken, Draws, outcomeBy, Seekable, Sought}
 use Rattle.writer.specs.declared.Grounds.{Grounds}
 use Rattle.writer.proofs.Placing.{placed-chosen, placed-holds}

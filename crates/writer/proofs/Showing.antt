@@ -30,7 +30,7 @@ use Rattle.batches.proofs.Marks.{draft-at}
 use Rattle.batches.proofs.Draws.{Drawing}
 use Rattle.batches.proofs.Breaches.{breach-said, breach-start, breach-next, breach-accepted, breach-each}
 use Rattle.emitting.specs.Emitting.{Kinded}
-use Rattle.finder.specs.declared.Outcome.{Outcome}
+use Rattle.replies.specs.declared.Outcome.{Outcome}
 use Rattle.writer.specs.Claims.{most, mostEach, space, Shown}
 use Rattle.writer.specs.Drawing.{sizeOf, settledOf, saidFor, saidOf, turnsOf, endsWith}
 

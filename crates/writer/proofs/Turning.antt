@@ -19,8 +19,8 @@ use lib.ListN.{length, getD, set, replicate}
 use Rattle.meaning.specs.Grounds.{literalAt}
 use Rattle.ledger.specs.declared.ContextColumns.{ContextColumns}
 use Rattle.ledger.specs.declared.ClauseColumns.{ClauseColumns}
-use Rattle.finder.specs.Claims.{said, asked}
-use Rattle.finder.specs.declared.Outcome.the-variants.{Breach}
+use Rattle.prepared.specs.Claims.{said, asked}
+use Rattle.replies.specs.declared.Outcome.the-variants.{Breach}
 use Rattle.verifier.specs.declared.Conclusions.{Conclusions}
 use Rattle.numbering.specs.declared.table.Table.{Table}
 use Rattle.grounding.specs.Draft.{countIn}

@@ -15,13 +15,14 @@ use Rattle.meaning.specs.Rules.{rangeOf, Clause, Breach, Found, found, nothing}
 use Rattle.meaning.specs.Text.{narrow, Reading}
 use Rattle.meaning.specs.Replies as M
 use Rattle.meaning.specs.Replies.{breach, refused, refusal, replyOf, placesOf, Judged, empty, clashes, answers, Replies, RepliesTo}
-use Rattle.ledger.specs.Phases.{meant}
-use Rattle.ledger.specs.declared.Refusal.{Refusal}
+use Rattle.replies.specs.Told.{meant}
+use Rattle.replies.specs.declared.Refusal.{Refusal}
 use Rattle.search.specs.Finding.{foundBy}
-use Rattle.finder.specs.Claims.{said, asked, Prepares}
-use Rattle.finder.specs.declared.Answer.the-variants as A
-use Rattle.finder.specs.declared.Prepared.{Prepared}
-use Rattle.finder.proofs.Preparing.{Stands, ready-stands, ready-asks, ready-replies, refused-answers}
+use Rattle.prepared.specs.Claims.{said, asked, Prepares}
+use Rattle.prepared.specs.declared.Answer.the-variants as A
+use Rattle.prepared.specs.declared.Prepared.{Prepared}
+use Rattle.prepared.proofs.Preparing.{Stands, ready-stands, ready-asks, refused-answers}
+use Rattle.finder.proofs.Ready.{ready-replies}
 use Rattle.writer.specs.Claims.{most, space, refuses, lacks, replies, Shown, Leaves, Writes}
 use Rattle.writer.specs.Drawing.{bareWith, refusedWith, Seekable, LeavesFor, Sought}
 use Rattle.writer.specs.declared.Grounds.{Grounds}

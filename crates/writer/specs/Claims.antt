@@ -22,7 +22,7 @@ use Rattle.meaning.specs.Grounds.{Step, Verified, accepted, conclusionFor}
 use Rattle.meaning.specs.GroundColumns.{stepsFrom}
 use Rattle.verifier.specs.declared.Conclusions.{Conclusions}
 use Rattle.judging.specs.Claims.{concludedIn}
-use Rattle.finder.specs.Claims.{toldBy, toldOf}
+use Rattle.replies.specs.Told.{toldBy, toldOf}
 use Rattle.batches.specs.Drawing.{Used, ownedBy}
 use Rattle.writer.specs.declared.Grounds.{Grounds}
 

@@ -31,13 +31,14 @@ use Rattle.meaning.specs.Columns.{rowsFrom, statementsFrom}
 use Rattle.meaning.specs.Checking.{entries, numbered}
 use Rattle.ledger.specs.declared.ContextColumns.{ContextColumns}
 use Rattle.ledger.specs.declared.ClauseColumns.{ClauseColumns}
-use Rattle.ledger.specs.declared.Refusal.{Refusal}
+use Rattle.replies.specs.declared.Refusal.{Refusal}
 use Rattle.search.specs.Finding.{foundBy}
 use Rattle.search.specs.declared.Kind.{Kind}
 use Rattle.search.specs.declared.Kind.the-variants as S
-use Rattle.finder.specs.Claims.{said, asked, toldBy, toldOf, Asks}
-use Rattle.finder.specs.declared.Outcome.{Outcome}
-use Rattle.finder.specs.declared.Outcome.the-variants as O
+use Rattle.prepared.specs.Claims.{said, asked, Asks}
+use Rattle.replies.specs.Told.{toldBy, toldOf}
+use Rattle.replies.specs.declared.Outcome.{Outcome}
+use Rattle.replies.specs.declared.Outcome.the-variants as O
 use Rattle.verifier.specs.declared.Conclusions.{Conclusions}
 use Rattle.numbering.specs.Keys.{Keyed}
 use Rattle.numbering.specs.Entries.{Filled}

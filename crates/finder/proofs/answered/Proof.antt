@@ -3,8 +3,6 @@
 use Rattle.finder.proofs.Judging.{mine}
 use Rattle.finder.proofs.answered.Statement.{statement}
 use Rattle.finder.proofs.answered.Tie as tie
-use Rattle.finder.proofs.answered.Reads as reads
-use Rattle.finder.proofs.answered.Lts as lts
 
 enum-known-kind : tie.Need-enum-known-kind
 enum-known-kind c = search mine

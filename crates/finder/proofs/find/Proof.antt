@@ -3,12 +3,6 @@
 use Rattle.finder.proofs.Judging.{mine}
 use Rattle.finder.proofs.find.Statement.{statement}
 use Rattle.finder.proofs.find.Tie as tie
-use Rattle.finder.proofs.find.Reads as reads
-use Rattle.finder.proofs.find.Lts as lts
-use Rattle.finder.proofs.answered.Reads as answered-reads
-use Rattle.finder.proofs.hunt.Reads as hunt-reads
-use Rattle.finder.proofs.prepare.Reads as prepare-reads
-use Rattle.finder.proofs.refused.Reads as refused-reads
 
 prepare-requires : tie.Need-prepare-requires
 prepare-requires c κs = search mine

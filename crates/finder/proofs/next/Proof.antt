@@ -3,12 +3,6 @@
 use Rattle.finder.proofs.Following.{mine}
 use Rattle.finder.proofs.next.Statement.{statement}
 use Rattle.finder.proofs.next.Tie as tie
-use Rattle.finder.proofs.next.Reads as reads
-use Rattle.finder.proofs.next.Lts as lts
-use Rattle.finder.proofs.answered.Reads as answered-reads
-use Rattle.finder.proofs.hunt_after.Reads as hunt-after-reads
-use Rattle.finder.proofs.prepare.Reads as prepare-reads
-use Rattle.finder.proofs.refused.Reads as refused-reads
 
 prepare-requires : tie.Need-prepare-requires
 prepare-requires c κs = search mine

@@ -4,8 +4,6 @@ use mathlib.Core.Path.{refl}
 use Rattle.finder.specs.Claims.{refusedWith}
 use Rattle.finder.proofs.refused.Statement.{statement}
 use Rattle.finder.proofs.refused.Tie as tie
-use Rattle.finder.proofs.refused.Reads as reads
-use Rattle.finder.proofs.refused.Lts as lts
 
 returns : tie.Need-returns
 unfolding refusedWith

@@ -4,8 +4,6 @@ use Prim.Native.Nat.{_-_}
 use Rattle.listing.proofs.Lines.{Copying, mine}
 use Rattle.listing.proofs.put.Statement.{statement}
 use Rattle.listing.proofs.put.Tie as tie
-use Rattle.listing.proofs.put.Reads as reads
-use Rattle.listing.proofs.put.Lts as lts
 
 abbrev Inv-loop : tie.InvT-loop
 Inv-loop len space₀ at bytes i₀ space i = Copying bytes len space₀ at i space

@@ -3,12 +3,6 @@
 use Rattle.listing.proofs.Lines.{mine}
 use Rattle.listing.proofs.told.Statement.{statement}
 use Rattle.listing.proofs.told.Tie as tie
-use Rattle.listing.proofs.told.Reads as reads
-use Rattle.listing.proofs.told.Lts as lts
-use Rattle.listing.proofs.done.Reads as done-reads
-use Rattle.listing.proofs.wide.Reads as wide-reads
-use Rattle.normaliser.proofs.printed.breach_line.Reads as breach-line-reads
-use Rattle.normaliser.proofs.printed.none_line.Reads as none-line-reads
 
 -- src/lib.rt:137:22
 enum-known-kind : tie.Need-enum-known-kind

@@ -1,10 +1,6 @@
 use Rattle.normaliser.proofs.Composed.{mine}
 use Rattle.normaliser.proofs.normalise.Statement.{statement}
 use Rattle.normaliser.proofs.normalise.Tie as tie
-use Rattle.normaliser.proofs.normalise.Reads as reads
-use Rattle.normaliser.proofs.normalise.Lts as lts
-use Rattle.normaliser.proofs.settle.Reads as settle-reads
-use Rattle.reader.proofs.read.Reads as read-reads
 
 -- src/lib.rt:105:9
 read-requires : tie.Need-read-requires

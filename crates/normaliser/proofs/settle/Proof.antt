@@ -1,11 +1,6 @@
 use Rattle.normaliser.proofs.Composed.{mine}
 use Rattle.normaliser.proofs.settle.Statement.{statement}
 use Rattle.normaliser.proofs.settle.Tie as tie
-use Rattle.normaliser.proofs.settle.Reads as reads
-use Rattle.normaliser.proofs.settle.Lts as lts
-use Rattle.finder.proofs.classes.Reads as classes-reads
-use Rattle.finder.proofs.contradiction.Reads as contradiction-reads
-use Rattle.normaliser.proofs.write.Reads as write-reads
 
 -- src/lib.rt:50:9
 classes-requires : tie.Need-classes-requires

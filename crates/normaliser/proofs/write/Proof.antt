@@ -1,9 +1,6 @@
 use Rattle.normaliser.proofs.Composed.{mine}
 use Rattle.normaliser.proofs.write.Statement.{statement}
 use Rattle.normaliser.proofs.write.Tie as tie
-use Rattle.normaliser.proofs.write.Reads as reads
-use Rattle.normaliser.proofs.write.Lts as lts
-use Rattle.normaliser.proofs.normal.write_normal.Reads as write-normal-reads
 
 -- src/lib.rt:63:5
 write-normal-requires : tie.Need-write-normal-requires

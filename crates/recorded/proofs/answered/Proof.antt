@@ -3,8 +3,6 @@
 use Rattle.recorded.proofs.Judging.{mine}
 use Rattle.recorded.proofs.answered.Statement.{statement}
 use Rattle.recorded.proofs.answered.Tie as tie
-use Rattle.recorded.proofs.answered.Reads as reads
-use Rattle.recorded.proofs.answered.Lts as lts
 
 enum-known-kind : tie.Need-enum-known-kind
 enum-known-kind c = search mine

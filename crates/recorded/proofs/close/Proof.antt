@@ -36,7 +36,7 @@ use denote.Triple.Clauses.{ensured, lasts}
 use Rattle.closing.specs.declared.Classes.{Classes}
 use Rattle.closing.proofs.Classes as K
 use Rattle.closing.proofs.Classes.Laws as K′
-use Rattle.finder.specs.Claims.{ClosedIn}
+use Rattle.prepared.specs.Claims.{ClosedIn}
 use Rattle.records.specs.Layouts.{listOf, spreadOf}
 use Rattle.records.specs.declared.Row.{Row}
 use Rattle.records.specs.declared.Statements.{Statements}

@@ -3,10 +3,6 @@
 use Rattle.recorded.proofs.Tables.{mine}
 use Rattle.recorded.proofs.close_table.Statement.{statement}
 use Rattle.recorded.proofs.close_table.Tie as tie
-use Rattle.recorded.proofs.close_table.Reads as reads
-use Rattle.recorded.proofs.close_table.Lts as lts
-use Rattle.finder.proofs.classes.Reads as classes-reads
-use Rattle.records.proofs.spread.Reads as spread-reads
 
 spread-requires : tie.Need-spread-requires
 spread-requires c κs = search mine

@@ -3,16 +3,6 @@
 use Rattle.recorded.proofs.Judging.{mine}
 use Rattle.recorded.proofs.find_over.Statement.{statement}
 use Rattle.recorded.proofs.find_over.Tie as tie
-use Rattle.recorded.proofs.find_over.Reads as reads
-use Rattle.recorded.proofs.find_over.Lts as lts
-use Rattle.finder.proofs.classes.Reads as classes-reads
-use Rattle.finder.proofs.contradiction.Reads as contradiction-reads
-use Rattle.finder.proofs.hunt.Reads as hunt-reads
-use Rattle.finder.proofs.judge.Reads as judge-reads
-use Rattle.recorded.proofs.answered.Reads as answered-reads
-use Rattle.recorded.proofs.fits.Reads as fits-reads
-use Rattle.recorded.proofs.refused.Reads as refused-reads
-use Rattle.recorded.proofs.unfit.Reads as unfit-reads
 
 fits-requires : tie.Need-fits-requires
 fits-requires c κs = search mine

@@ -3,9 +3,6 @@
 use Rattle.recorded.proofs.Judging.{mine}
 use Rattle.recorded.proofs.fits.Statement.{statement}
 use Rattle.recorded.proofs.fits.Tie as tie
-use Rattle.recorded.proofs.fits.Reads as reads
-use Rattle.recorded.proofs.fits.Lts as lts
-use Rattle.columns.proofs.fit_clause.Reads as fit-clause-reads
 
 fit-clause-requires : tie.Need-fit-clause-requires
 fit-clause-requires c κs = search mine

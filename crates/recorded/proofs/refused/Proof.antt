@@ -4,8 +4,6 @@ use mathlib.Core.Path.{refl}
 use Rattle.recorded.specs.Claims.{refusedWith}
 use Rattle.recorded.proofs.refused.Statement.{statement}
 use Rattle.recorded.proofs.refused.Tie as tie
-use Rattle.recorded.proofs.refused.Reads as reads
-use Rattle.recorded.proofs.refused.Lts as lts
 
 returns : tie.Need-returns
 unfolding refusedWith

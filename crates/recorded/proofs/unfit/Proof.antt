@@ -4,8 +4,6 @@ use mathlib.Core.Path.{refl}
 use Rattle.recorded.specs.Claims.{unfitReply}
 use Rattle.recorded.proofs.unfit.Statement.{statement}
 use Rattle.recorded.proofs.unfit.Tie as tie
-use Rattle.recorded.proofs.unfit.Reads as reads
-use Rattle.recorded.proofs.unfit.Lts as lts
 
 returns : tie.Need-returns
 unfolding unfitReply

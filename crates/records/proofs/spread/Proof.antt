@@ -3,7 +3,6 @@
 use Rattle.records.proofs.Laying.{mine}
 use Rattle.records.proofs.spread.Statement.{statement}
 use Rattle.records.proofs.spread.Tie as tie
-use Rattle.records.proofs.laid.Reads as laid-reads
 
 laid-requires : tie.Need-laid-requires
 laid-requires c κs = search mine

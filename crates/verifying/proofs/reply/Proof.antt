@@ -4,14 +4,14 @@ use Rattle.verifying.proofs.Ways.{mine}
 use Rattle.verifying.proofs.reply.Statement.{statement}
 use Rattle.verifying.proofs.reply.Tie as tie
 
-refusal-line-requires : tie.Need-refusal-line-requires
-refusal-line-requires c κs = search mine
+over-line-requires : tie.Need-over-line-requires
+over-line-requires c κs = search mine
 
 returns : tie.Need-returns
 returns c = search mine
 
-refusal-line-requires-2 : tie.Need-refusal-line-requires-2
-refusal-line-requires-2 c κs = search mine
+over-line-requires-2 : tie.Need-over-line-requires-2
+over-line-requires-2 c κs = search mine
 
 returns-2 : tie.Need-returns-2
 returns-2 c = search mine
@@ -29,9 +29,9 @@ pub reply-spec : {M : Type 1} → statement M
 reply-spec =
     tie.close
     (tie.spec
-    refusal-line-requires
+    over-line-requires
     returns
-    refusal-line-requires-2
+    over-line-requires-2
     returns-2
     outcome-requires
     outcome-line-requires

@@ -7,8 +7,8 @@ use Rattle.verifying.proofs.verdict_line.Tie as tie
 enum-told : tie.Need-enum-told
 enum-told c = search mine
 
-line-two-requires : tie.Need-line-two-requires
-line-two-requires c κs = search mine
+line-of-requires : tie.Need-line-of-requires
+line-of-requires c κs = search mine
 
 enum-known-a : tie.Need-enum-known-a
 enum-known-a c = search mine
@@ -16,8 +16,8 @@ enum-known-a c = search mine
 low-requires : tie.Need-low-requires
 low-requires c κs = search mine
 
-line-three-requires : tie.Need-line-three-requires
-line-three-requires c κs = search mine
+line-of-requires-2 : tie.Need-line-of-requires-2
+line-of-requires-2 c κs = search mine
 
 enum-known-a-2 : tie.Need-enum-known-a-2
 enum-known-a-2 c = search mine
@@ -34,8 +34,8 @@ low-requires-4 c κs = search mine
 low-requires-5 : tie.Need-low-requires-5
 low-requires-5 c κs = search mine
 
-line-six-requires : tie.Need-line-six-requires
-line-six-requires c κs = search mine
+line-of-requires-3 : tie.Need-line-of-requires-3
+line-of-requires-3 c κs = search mine
 
 enum-known-a-3 : tie.Need-enum-known-a-3
 enum-known-a-3 c = search mine
@@ -43,8 +43,8 @@ enum-known-a-3 c = search mine
 low-requires-6 : tie.Need-low-requires-6
 low-requires-6 c κs = search mine
 
-line-three-requires-2 : tie.Need-line-three-requires-2
-line-three-requires-2 c κs = search mine
+line-of-requires-4 : tie.Need-line-of-requires-4
+line-of-requires-4 c κs = search mine
 
 returns : tie.Need-returns
 returns c = search mine
@@ -63,19 +63,19 @@ verdict-line-spec =
     tie.close
     (tie.spec
     enum-told
-    line-two-requires
+    line-of-requires
     enum-known-a
     low-requires
-    line-three-requires
+    line-of-requires-2
     enum-known-a-2
     low-requires-2
     low-requires-3
     low-requires-4
     low-requires-5
-    line-six-requires
+    line-of-requires-3
     enum-known-a-3
     low-requires-6
-    line-three-requires-2
+    line-of-requires-4
     returns
     returns-2
     returns-3

@@ -3,12 +3,6 @@
 use Rattle.listing.proofs.Output.{mine}
 use Rattle.listing.proofs.opening.begin.Statement.{statement}
 use Rattle.listing.proofs.opening.begin.Tie as tie
-use Rattle.listing.proofs.opening.begin.Reads as reads
-use Rattle.listing.proofs.opening.begin.Lts as lts
-use Rattle.listing.proofs.done.Reads as done-reads
-use Rattle.listing.proofs.opening.no_line.Reads as no-line-reads
-use Rattle.listing.proofs.start.Reads as start-reads
-use Rattle.normaliser.proofs.printed.refusal_line.Reads as refusal-line-reads
 
 enum-told : tie.Need-enum-told
 enum-told c = search mine

@@ -3,8 +3,6 @@
 use Rattle.listing.proofs.Output.{mine}
 use Rattle.listing.proofs.opening.limit.Statement.{statement}
 use Rattle.listing.proofs.opening.limit.Tie as tie
-use Rattle.listing.proofs.opening.limit.Reads as reads
-use Rattle.listing.proofs.opening.limit.Lts as lts
 
 returns : tie.Need-returns
 returns c = search mine

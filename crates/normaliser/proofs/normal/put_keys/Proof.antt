@@ -2,7 +2,7 @@
 -- Assumes nothing.
 use Prim.Native.Nat.{_-_}
 use Rattle.normaliser.specs.Pieces.{keyPiece}
-use Rattle.normaliser.proofs.Running.{Running}
+use Rattle.reply_lines.proofs.Running.{Running}
 use Rattle.normaliser.proofs.Pairs.{mine}
 use Rattle.normaliser.proofs.normal.put_keys.Statement.{statement}
 use Rattle.normaliser.proofs.normal.put_keys.Tie as tie

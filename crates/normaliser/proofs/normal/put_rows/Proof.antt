@@ -2,7 +2,7 @@
 -- Assumes nothing.
 use Prim.Native.Nat.{_-_}
 use Rattle.normaliser.specs.Pieces.{rowPiece}
-use Rattle.normaliser.proofs.Running.{Running}
+use Rattle.reply_lines.proofs.Running.{Running}
 use Rattle.normaliser.proofs.Rows.{mine}
 use Rattle.normaliser.proofs.normal.put_rows.Statement.{statement}
 use Rattle.normaliser.proofs.normal.put_rows.Tie as tie

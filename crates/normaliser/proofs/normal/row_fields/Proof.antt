@@ -1,6 +1,6 @@
 -- `normal::row_fields` meets its contract: each field is what its call ensures.
 -- Assumes nothing.
-use Rattle.normaliser.proofs.Printing.{mine}
+use Rattle.reply_lines.proofs.Printing.{mine}
 use Rattle.normaliser.proofs.normal.row_fields.Statement.{statement}
 use Rattle.normaliser.proofs.normal.row_fields.Tie as tie
 
