@@ -1,10 +1,8 @@
 -- The fields of a legible line, read from the text: each two digits are a field.
---     field-is, kind-short .. kind-known   what the functions on fields and kinds return
---     listed, unlisted                     which numbers are kinds
+--     field-is                             what the function on a field returns
 --     fields-length, field-at              how many fields a line has, and where each stands
 --     value-byte                           a field of a legible line is below 256
 -- Assumes nothing.
-use mathlib.Core.Bool.{true, false}
 use mathlib.Core.List.{List, [], _∷_}
 use mathlib.Core.Path.{_≡_, refl, ap, _∙_}
 use Prim.Native.Nat.{ℕ, zero, suc, _+_, _-_, _*_, _/_, _<_, _≤_}
@@ -12,61 +10,14 @@ use native.Mathlib.Omega.{arith}
 use lib.ListN.{length, getD, drop}
 use lib.Seq.{getD-take, getD-drop}
 use borrow.Author.Needs.{needs}
-use borrow.Author.Tests.{lt-ltb, le-ltb, ne-eqb}
-use Rattle.meaning.specs.Text.{digit, fields, fieldAt, isListed, kinds}
-use Rattle.frames.specs.Lines.{Legible, valueAt, kindAt, kindOf}
-use Rattle.frames.specs.declared.lines.Kind.the-variants.{Known, Unknown}
+use Rattle.meaning.specs.Text.{digit, fields, fieldAt}
+use Rattle.frames.specs.Lines.{Legible, valueAt}
 use Rattle.frames.proofs.Scan.{part, part-length}
 
 pub field-is : (text : List ℕ) (at v w x y : ℕ) → v ≡ digit (getD text at 0) → w ≡ v → x ≡ digit (getD text (at + 1) 0) → y ≡ x
     → w * 16 + y ≡ valueAt text at
 unfolding valueAt
 field-is text at v w x y e f g h = rw (← e, ← g, f, h)
-
-pub kind-short : (text : List ℕ) (at : ℕ) → length text - at < 2 → 0 ≡ kindAt text at
-unfolding kindAt
-kind-short text at h = rw (lt-ltb _ _ h)
-
-pub kind-field : (text : List ℕ) (at v : ℕ) → 2 ≤ length text - at → v ≡ valueAt text at → v ≡ kindAt text at
-unfolding kindAt
-kind-field text at v h e = rw (le-ltb _ _ h) e
-
-pub listed : (n : ℕ) → (n ≡ 0 → ⊥) → n ≤ 7 → isListed n kinds ≡ true
-unfolding isListed
-listed zero h g = absurd (h refl)
-listed (suc zero) h g = refl
-listed (suc (suc zero)) h g = refl
-listed (suc (suc (suc zero))) h g = refl
-listed (suc (suc (suc (suc zero)))) h g = refl
-listed (suc (suc (suc (suc (suc zero))))) h g = refl
-listed (suc (suc (suc (suc (suc (suc zero)))))) h g = refl
-listed (suc (suc (suc (suc (suc (suc (suc zero))))))) h g = refl
-listed (suc (suc (suc (suc (suc (suc (suc (suc n)))))))) h g = absurd (omega arith)
-
-pub unlisted : (n : ℕ) → 7 < n → isListed n kinds ≡ false
-unfolding isListed
-unlisted n h =
-    rw (
-      ne-eqb n 1 (λ e. omega arith),
-      ne-eqb n 2 (λ e. omega arith),
-      ne-eqb n 3 (λ e. omega arith),
-      ne-eqb n 4 (λ e. omega arith),
-      ne-eqb n 5 (λ e. omega arith),
-      ne-eqb n 6 (λ e. omega arith),
-      ne-eqb n 7 (λ e. omega arith),
-    )
-
-pub kind-zero : (n : ℕ) → n ≡ 0 → Unknown ≡ kindOf n
-unfolding kindOf isListed
-kind-zero n e = rw e
-
-pub kind-high : (n : ℕ) → 7 < n → Unknown ≡ kindOf n
-unfolding kindOf
-kind-high n h = rw (unlisted n h)
-
-pub kind-known : (n : ℕ) → (n ≡ 0 → ⊥) → n ≤ 7 → Known n ≡ kindOf n
-unfolding kindOf
-kind-known n h g = rw (listed n h g)
 
 pub fields-length : (l : List ℕ) → length (fields l) ≡ length l / 2
 unfolding fields
@@ -107,4 +58,4 @@ module _ (text : List ℕ) (at end : ℕ) (g : Legible text at end) where
   unfolding valueAt
   value-byte p a h = omega (arith, g .digits p a (omega arith), g .digits (p + 1) (omega arith) h)
 
-pub ruleset mine = (needs, field-is, kind-short, kind-field, kind-zero, kind-high, kind-known)
+pub ruleset mine = (needs, field-is)

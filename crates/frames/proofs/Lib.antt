@@ -4,4 +4,3 @@ pub mod Breaks
 pub mod Scan
 pub mod Fields
 pub mod Ways
-pub mod Clashes

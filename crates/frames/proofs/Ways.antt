@@ -1,18 +1,15 @@
 -- What each way out of the functions on one line's entry gives, from what the way hands over.
 -- Assumes nothing.
-use mathlib.Core.Bool.{Bool, true, false}
 use mathlib.Core.List.{List}
 use mathlib.Core.Path.{_≡_}
 use Prim.Native.Nat.{ℕ, _+_, _-_, _*_, _<_, _≤_}
 use native.Mathlib.Omega.{arith}
 use borrow.Author.Needs.{needs}
-use borrow.Author.Tests.{lt-ltb, le-ltb, ne-eqb, eq-eqb, not-true, not-false}
+use borrow.Author.Tests.{lt-ltb, le-ltb}
 use Rattle.frames.specs.Lines.{valueAt}
-use Rattle.frames.specs.Entries.{foundIn, argumentOf, pairOf, TermLine, TwoFields, symbolAt, termFrom, termOf, variableOf}
+use Rattle.frames.specs.Entries.{foundIn, argumentOf, TermLine, TwoFields, symbolAt, termFrom}
 use Rattle.frames.specs.declared.entries.Found.{Found}
 use Rattle.frames.specs.declared.entries.Found.the-variants.{Row, Missing}
-use Rattle.frames.specs.declared.entries.Paired.the-variants as P
-use Rattle.frames.specs.declared.entries.Termed.{Termed}
 use Rattle.frames.specs.declared.entries.Termed.the-variants as T
 use Rattle.frames.proofs.Fields.{value-byte}
 
@@ -30,69 +27,6 @@ module _ (text : List ℕ) (at n : ℕ) where
   pub argument-past : (k count : ℕ) → count ≤ k → Row 0 ≡ argumentOf text at k count n
   unfolding argumentOf
   argument-past k count h = rw (le-ltb _ _ h)
-
-module _ (text : List ℕ) (at end n : ℕ) (room : Bool) where
-  pub pair-size : (end - at ≡ 6 → ⊥) → P.Refused 3 0 ≡ pairOf text at end room n
-  unfolding pairOf
-  pair-size h = rw (ne-eqb _ _ h)
-
-  pub pair-full : end - at ≡ 6 → room ≡ false → P.Refused 5 0 ≡ pairOf text at end room n
-  unfolding pairOf
-  pair-full h r = rw (eq-eqb _ _ h, r)
-
-  pub pair-left : (f : Found) → end - at ≡ 6 → room ≡ true → f ≡ foundIn n (valueAt text (at + 2)) → f ≡ Missing
-      → P.Refused 6 2 ≡ pairOf text at end room n
-  unfolding pairOf
-  pair-left f h r e m = rw (eq-eqb _ _ h, r, ← e, m)
-
-  pub pair-right : (f g : Found) (p : ℕ) → end - at ≡ 6 → room ≡ true → f ≡ foundIn n (valueAt text (at + 2)) → f ≡ Row p
-      → g ≡ foundIn n (valueAt text (at + 4)) → g ≡ Missing → P.Refused 6 4 ≡ pairOf text at end room n
-  unfolding pairOf
-  pair-right f g p h r e m d q = rw (eq-eqb _ _ h, r, ← e, m, ← d, q)
-
-  pub pair-both : (f g : Found) (p q : ℕ) → end - at ≡ 6 → room ≡ true → f ≡ foundIn n (valueAt text (at + 2)) → f ≡ Row p
-      → g ≡ foundIn n (valueAt text (at + 4)) → g ≡ Row q → P.Is (record { left = p; right = q }) ≡ pairOf text at end room n
-  unfolding pairOf
-  pair-both f g p q h r e m d o = rw (eq-eqb _ _ h, r, ← e, m, ← d, o)
-
-  pub variable-size : (end - at ≡ 4 → ⊥) → T.Refused 3 0 ≡ variableOf text at end room
-  unfolding variableOf
-  variable-size h = rw (ne-eqb _ _ h)
-
-  pub variable-full : end - at ≡ 4 → room ≡ false → T.Refused 5 0 ≡ variableOf text at end room
-  unfolding variableOf
-  variable-full h r = rw (eq-eqb _ _ h, r)
-
-  pub variable-high : (v : ℕ) → end - at ≡ 4 → room ≡ true → v ≡ valueAt text (at + 2) → 3 < v → T.Refused 5 0 ≡ variableOf text at end room
-  unfolding variableOf
-  variable-high v h r e g = rw (eq-eqb _ _ h, r, ← e, lt-ltb _ _ g)
-
-  pub variable-here : (v : ℕ) → end - at ≡ 4 → room ≡ true → v ≡ valueAt text (at + 2) → v ≤ 3
-      → T.Is (record { head = v; count = 0; a = 0; b = 0; c = 0; d = 0 }) ≡ variableOf text at end room
-  unfolding variableOf
-  variable-here v h r e g = rw (eq-eqb _ _ h, r, ← e, le-ltb _ _ g)
-
-  pub term-short : end - at < 8 → T.Refused 3 0 ≡ termOf text at end room n
-  unfolding termOf
-  term-short h = rw (lt-ltb _ _ h)
-
-  pub term-size : (v : ℕ) → 8 ≤ end - at → v ≡ valueAt text (at + 6) → (end - at ≡ 8 + v * 2 → ⊥) → T.Refused 3 0 ≡ termOf text at end room n
-  unfolding termOf
-  term-size v h e d = rw (le-ltb _ _ h, ← e, ne-eqb _ _ d)
-
-  pub term-full : (v : ℕ) → 8 ≤ end - at → v ≡ valueAt text (at + 6) → end - at ≡ 8 + v * 2 → room ≡ false → T.Refused 5 0 ≡ termOf text at end room n
-  unfolding termOf
-  term-full v h e d r = rw (le-ltb _ _ h, ← e, eq-eqb _ _ d, r)
-
-  pub term-many : (v : ℕ) → 8 ≤ end - at → v ≡ valueAt text (at + 6) → end - at ≡ 8 + v * 2 → room ≡ true → 4 < v
-      → T.Refused 5 0 ≡ termOf text at end room n
-  unfolding termOf
-  term-many v h e d r g = rw (le-ltb _ _ h, ← e, eq-eqb _ _ d, r, lt-ltb _ _ g)
-
-  pub term-here : (v : ℕ) (t : Termed) → 8 ≤ end - at → v ≡ valueAt text (at + 6) → end - at ≡ 8 + v * 2 → room ≡ true → v ≤ 4
-      → t ≡ termFrom text at v n → t ≡ termOf text at end room n
-  unfolding termOf
-  term-here v t h e d r g f = rw (le-ltb _ _ h, ← e, eq-eqb _ _ d, r, le-ltb _ _ g) f
 
 pub symbol-is : (text : List ℕ) (at v w : ℕ) → v ≡ valueAt text at → w ≡ valueAt text (at + 2) → v * 256 + w ≡ symbolAt text at
 unfolding symbolAt
@@ -137,26 +71,10 @@ symbol-digits text at end count t =
 
 pub ruleset mine = (
   needs,
-  not-true,
-  not-false,
   row-here,
   row-none,
   argument-here,
   argument-past,
-  pair-size,
-  pair-full,
-  pair-left,
-  pair-right,
-  pair-both,
-  variable-size,
-  variable-full,
-  variable-high,
-  variable-here,
-  term-short,
-  term-size,
-  term-full,
-  term-many,
-  term-here,
   symbol-is,
   symbol-digits,
   term-first,

@@ -1,12 +1,11 @@
--- What one legible line adds, or its refusal, a number and a byte of the line, by the fields at their places.
+-- What the fields of a legible line name, or its refusal, a number and a byte of the line.
 --     foundIn, argumentOf          the look-up of a row, and of an argument
---     pairOf, termOf, variableOf   a line that names two rows; one with a symbol over rows; one with a variable
+--     pairBy, termFrom             two rows, and a symbol over rows, where each is there
 -- Assumes nothing.
-use mathlib.Core.Bool.{Bool}
 use mathlib.Core.List.{List}
 use mathlib.Core.Path.{_≡_}
 use Prim.Native.Nat.{ℕ, _+_, _-_, _*_, _<_}
-use lib.Dec.{eqb, ltb}
+use lib.Dec.{ltb}
 use lib.ListN.{length}
 use Rattle.frames.specs.Choice.{choose}
 use Rattle.frames.specs.Lines.{Legible, valueAt}
@@ -27,14 +26,6 @@ argumentOf text at k count n = choose (ltb k count) (foundIn n (valueAt text (at
 abbrev pub pairBy : ℕ → Found → (ℕ → Paired) → Paired
 pairBy o (Row v) next = next v
 pairBy o Missing next = P.Refused 6 o
-
-unfoldable pub pairOf : List ℕ → ℕ → ℕ → Bool → ℕ → Paired
-pairOf text at end room n =
-    choose (eqb (end - at) 6)
-    (choose room
-    (pairBy 2 (foundIn n (valueAt text (at + 2))) (λ p. pairBy 4 (foundIn n (valueAt text (at + 4))) (λ q. P.Is (record { left = p; right = q }))))
-    (P.Refused 5 0))
-    (P.Refused 3 0)
 
 -- a legible line that is as long as a line with so many arguments
 pub record TermLine (text : List ℕ) (at end count : ℕ) : Type 0 where
@@ -61,21 +52,3 @@ termFrom text at count n =
     (λ b. termBy 12 (argumentOf text (at + 8) 2 count n)
     (λ c. termBy 14 (argumentOf text (at + 8) 3 count n)
     (λ d. T.Is (record { head = symbolAt text (at + 2); count = count; a = a; b = b; c = c; d = d })))))
-
-unfoldable pub termOf : List ℕ → ℕ → ℕ → Bool → ℕ → Termed
-termOf text at end room n =
-    choose (ltb (end - at) 8)
-    (T.Refused 3 0)
-    (choose (eqb (end - at) (8 + valueAt text (at + 6) * 2))
-    (choose room (choose (ltb 4 (valueAt text (at + 6))) (T.Refused 5 0) (termFrom text at (valueAt text (at + 6)) n)) (T.Refused 5 0))
-    (T.Refused 3 0))
-
-unfoldable pub variableOf : List ℕ → ℕ → ℕ → Bool → Termed
-variableOf text at end room =
-    choose (eqb (end - at) 4)
-    (choose room
-    (choose (ltb 3 (valueAt text (at + 2)))
-    (T.Refused 5 0)
-    (T.Is (record { head = valueAt text (at + 2); count = 0; a = 0; b = 0; c = 0; d = 0 })))
-    (T.Refused 5 0))
-    (T.Refused 3 0)

@@ -2,4 +2,3 @@ pub mod Choice
 pub mod Digits
 pub mod Lines
 pub mod Entries
-pub mod Agree

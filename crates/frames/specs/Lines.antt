@@ -1,21 +1,16 @@
--- What is found at a place of a text: a run of digits, a line, a field, a kind.
+-- What is found at a place of a text: a run of digits, a line, a field.
 --     Run, Legible, LineAt   where a run of digits ends; a legible line; what the search for a line's end answers
---     valueAt, kindAt        the field whose first digit stands at a place; the first field of a line, or 0
---     kindOf                 what the look-up of a kind answers
+--     valueAt                the field whose first digit stands at a place
 -- Assumes nothing.
 use mathlib.Core.Bool.{false}
 use mathlib.Core.List.{List, _∷_}
 use mathlib.Core.Path.{_≡_}
 use Prim.Native.Nat.{ℕ, _+_, _-_, _*_, _%_, _<_, _≤_, min}
-use lib.Dec.{ltb}
 use lib.ListN.{length, getD, drop}
 use Rattle.meaning.specs.Text as T
-use Rattle.meaning.specs.Text.{digit, linesOf, legible, badByte, furthest, isListed, kinds}
-use Rattle.frames.specs.Choice.{choose}
+use Rattle.meaning.specs.Text.{digit, linesOf, legible, badByte, furthest}
 use Rattle.frames.specs.declared.lines.Line.{Line}
 use Rattle.frames.specs.declared.lines.Line.the-variants.{Ends, Bad}
-use Rattle.frames.specs.declared.lines.Kind.{Kind}
-use Rattle.frames.specs.declared.lines.Kind.the-variants.{Known, Unknown}
 
 -- the bytes from one place to before another are digits
 abbrev pub Digits : List ℕ → ℕ → ℕ → Type 0
@@ -48,9 +43,3 @@ LineAt text at (Bad o) = Illegible text at o
 
 unfoldable pub valueAt : List ℕ → ℕ → ℕ
 valueAt text at = digit (getD text at 0) * 16 + digit (getD text (at + 1) 0)
-
-unfoldable pub kindAt : List ℕ → ℕ → ℕ
-kindAt text at = choose (ltb (length text - at) 2) 0 (valueAt text at)
-
-unfoldable pub kindOf : ℕ → Kind
-kindOf n = choose (isListed n kinds) (Known n) Unknown

@@ -1,10 +1,10 @@
-// What one line adds, or its refusal, a number and a byte of the line: a pair of rows, or a symbol over rows.
+// What the fields of a line name, or its refusal, a number and a byte of the line: a row, two rows, or a symbol over rows.
 use super::lines::field;
 ghost use mathlib.Core.Path.{_≡_};
 ghost use Prim.Native.Nat.{_≤_, _<_, _+_, _*_};
 ghost use lib.ListN.{length};
-ghost use Rattle.frames.specs.Lines.{Legible, valueAt};
-ghost use Rattle.frames.specs.Entries.{foundIn, argumentOf, pairOf, TermLine, TwoFields, symbolAt, termFrom, termOf, variableOf};
+ghost use Rattle.frames.specs.Lines.{valueAt};
+ghost use Rattle.frames.specs.Entries.{foundIn, argumentOf, TermLine, TwoFields, symbolAt, termFrom};
 
 pub enum Found {
     Row(u16),
@@ -62,27 +62,6 @@ pub(crate) fn argument(text: &[u8], at: usize, k: u8, count: u8, n: usize) -> Fo
     }
 }
 
-// The line from a place to an end names two of n rows.
-pub fn pair_line(text: &[u8], at: usize, end: usize, room: bool, n: usize) -> Paired
-    requires { ⌜ Legible (now text) at end ⌝ }
-    ensures { λ r. ⌜ r ≡ pairOf (now (text .entry)) at end room n ⌝ }
-{
-    if end - at != 6 {
-        return Paired::Refused(3, 0);
-    }
-    if !room {
-        return Paired::Refused(5, 0);
-    }
-    let Found::Row(left) = row_at(text, at + 2, n) else {
-        return Paired::Refused(6, 2);
-    };
-    let Found::Row(right) = row_at(text, at + 4, n) else {
-        return Paired::Refused(6, 4);
-    };
-    let p = Pair { left, right };
-    Paired::Is(p)
-}
-
 fn symbol_at(text: &[u8], at: usize) -> u16
     requires { ⌜ TwoFields (now text) at ⌝ }
     ensures { λ r. ⌜ r ≡ symbolAt (now (text .entry)) at ⌝ }
@@ -118,55 +97,6 @@ pub fn term_of(text: &[u8], at: usize, end: usize, count: u8, n: usize) -> Terme
         b,
         c,
         d,
-    };
-    Termed::Is(t)
-}
-
-// The line from a place to an end has a symbol over some of n rows.
-pub fn term_line(text: &[u8], at: usize, end: usize, room: bool, n: usize) -> Termed
-    requires { ⌜ Legible (now text) at end ⌝ }
-    ensures { λ r. ⌜ r ≡ termOf (now (text .entry)) at end room n ⌝ }
-{
-    let long = end - at;
-    if long < 8 {
-        return Termed::Refused(3, 0);
-    }
-    let count = field(text, at + 6);
-    let args = count as usize;
-    if long != 8 + args * 2 {
-        return Termed::Refused(3, 0);
-    }
-    if !room {
-        return Termed::Refused(5, 0);
-    }
-    if 4 < count {
-        return Termed::Refused(5, 0);
-    }
-    term_of(text, at, end, count as u8, n)
-}
-
-// The line from a place to an end has a variable.
-pub fn variable_line(text: &[u8], at: usize, end: usize, room: bool) -> Termed
-    requires { ⌜ Legible (now text) at end ⌝ }
-    ensures { λ r. ⌜ r ≡ variableOf (now (text .entry)) at end room ⌝ }
-{
-    if end - at != 4 {
-        return Termed::Refused(3, 0);
-    }
-    if !room {
-        return Termed::Refused(5, 0);
-    }
-    let v = field(text, at + 2);
-    if 3 < v {
-        return Termed::Refused(5, 0);
-    }
-    let t = Term {
-        head: v,
-        count: 0,
-        a: 0,
-        b: 0,
-        c: 0,
-        d: 0,
     };
     Termed::Is(t)
 }

@@ -1,5 +1,4 @@
-// The lines of a text: digits, fields, and what one line adds by its fields.
-pub mod agree;
+// The lines of a text: digits, fields, and what the fields name.
 pub mod digits;
 pub mod entries;
 pub mod lines;

@@ -1,4 +1,4 @@
-// Lines of a text: where a line ends, its kind and its fields.
+// Lines of a text: where a line ends, and its fields.
 use super::digits::Digit;
 use super::digits::digit_of;
 use super::digits::value;
@@ -6,17 +6,12 @@ ghost use mathlib.Core.Path.{_≡_};
 ghost use Prim.Native.Nat.{_≤_, _<_, _+_, min};
 ghost use lib.ListN.{length};
 ghost use Rattle.meaning.specs.Text.{furthest};
-ghost use Rattle.frames.specs.Lines.{Run, LineAt, valueAt, kindAt, kindOf};
+ghost use Rattle.frames.specs.Lines.{Run, LineAt, valueAt};
 
 // Where a legible line has its line feed; or the byte that refusal 1 names, counted from where the line begins.
 pub enum Line {
     Ends(usize),
     Bad(u16),
-}
-
-pub enum Kind {
-    Known(u8),
-    Unknown,
 }
 
 // The first place from at on that holds no digit, or the length.
@@ -78,28 +73,4 @@ pub fn field(text: &[u8], at: usize) -> u16
     let high = wide(value(text[at]));
     let low = wide(value(text[at + 1]));
     high * 16 + low
-}
-
-// The first field from a place on, or 0 where the text is too short for one.
-pub fn kind_at(text: &[u8], at: usize) -> u16
-    requires { ⌜ at ≤ length (now text) ⌝ }
-    ensures { λ r. ⌜ r ≡ kindAt (now (text .entry)) at ⌝ }
-{
-    if text.len() - at < 2 {
-        return 0;
-    }
-    field(text, at)
-}
-
-// The kind with a number.
-pub fn kind_of(n: u16) -> Kind
-    ensures { λ r. ⌜ r ≡ kindOf n ⌝ }
-{
-    if n == 0 {
-        return Kind::Unknown;
-    }
-    if 7 < n {
-        return Kind::Unknown;
-    }
-    Kind::Known(n as u8)
 }

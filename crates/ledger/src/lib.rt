@@ -1,5 +1,4 @@
-// What the lines of a context say, in columns.
-pub mod context;
+// A context and a clause in columns.
 
 // Rows with a symbol, a count and four places for arguments; statements with their kind, 2 or 3, in the text's order; how many of each.
 pub struct ContextColumns {

@@ -1,52 +1,69 @@
--- The reader's promise, by the ways out.
---     reads-refused, reads-clause, reads-last   a refusal of a context line, of a clause line, of a line that no phase reads
---     reads-taken                               a text without a fault
---     reads-unique                              two answers that meet the promise are equal
+-- The reader's promise, from what `text_reader` tells.
+--     answer-taken, answer-refused   one answer as the other
+--     reads-columns                  the columns of what was read
+--     reads-unique                   two answers that meet the promise are equal
 -- Assumes nothing.
 use mathlib.Core.List.{List}
-use mathlib.Core.Path.{_≡_, refl, sym, ap, subst, _∙_}
-use Prim.Native.Nat.{ℕ, _≤_}
+use mathlib.Core.Path.{_≡_, refl, sym, ap, _∙_}
+use Prim.Native.Nat.{ℕ}
 use native.Mathlib.Omega.{arith}
-use lib.ListN.{length, drop-of-length-le}
 use borrow.Author.Needs.{needs}
-use Rattle.meaning.specs.Text.{taken, read, readLines, narrow, linesOf, linesFrom}
-use Rattle.ledger.specs.Columns.{noContext, noClause}
-use Rattle.ledger.specs.Phases.{Faulty, ContextPhase, ClausePhase, LastFault}
-use Rattle.reader.specs.Reads.{toldBy, Reads}
+use Rattle.meaning.specs.Columns.{pad, fours}
+use Rattle.meaning.specs.Text as M
+use Rattle.meaning.specs.Text.{faulty, taken, read, narrow}
+use Rattle.told.specs.Reads as T
+use Rattle.told.specs.declared.Answer as O
+use Rattle.told.specs.declared.Answer.the-variants as U
+use Rattle.replies.specs.declared.Refusal.{Refusal}
+use Rattle.told.specs.declared.Told.{Told}
+use Rattle.told.proofs.Saying.{told-kept}
+use Rattle.bridge.specs.Columns.{contextLaid, clauseLaid}
+use Rattle.bridge.proofs.Agreeing.{context-agrees, clause-agrees}
+use Rattle.ledger.specs.Columns.{contextColumns, clauseColumns, noContext, noClause}
+use Rattle.reader.specs.Reads.{toldBy, toldOf, contextOf, clauseIn, Reads}
 use Rattle.reader.specs.declared.Answer.{Answer}
 use Rattle.reader.specs.declared.Answer.the-variants.{Taken, Refused}
 use Rattle.ledger.specs.declared.ContextColumns.{ContextColumns}
 use Rattle.ledger.specs.declared.ClauseColumns.{ClauseColumns}
 use Rattle.reader.specs.declared.Reading.{Reading}
-use Rattle.replies.specs.declared.Refusal.{Refusal}
-use Rattle.ledger.specs.declared.context.Next.{Next}
-use Rattle.ledger.specs.declared.context.Next.the-variants as N
-use Rattle.ledger.specs.declared.context.Place.{Place}
-use Rattle.reader.proofs.Literate.{clause-stands}
-use Rattle.ledger.proofs.Stated.{context-at}
 
-refused-reads : (text : List ℕ) (x : Refusal) (r : Reading) → Faulty text x → r ≡ record { answer = Refused x; context = noContext; clause = noClause } → Reads text r
-refused-reads text x r f e = rw e record { told = rw f; context = rw f; clause = rw f }
+pub answer-taken : (a : O.Answer) → a ≡ U.Taken → toldBy Taken ≡ T.toldBy a
+answer-taken a e = rw e
 
-pub reads-refused : (text : List ℕ) (m : ℕ) (next : Next) (c : ContextColumns) (x : Refusal) (r : Reading) → ContextPhase text m next c → next ≡ N.Refused x
-    → r ≡ record { answer = Refused x; context = noContext; clause = noClause } → Reads text r
-reads-refused text m next c x r p e f = refused-reads text x r (subst (λ (y : Next). ContextPhase text m y c) e p) f
+pub answer-refused : (a : O.Answer) (x : Refusal) → a ≡ U.Refused x → toldBy (Refused x) ≡ T.toldBy a
+answer-refused a x e = rw e
 
-module _ (text : List ℕ) (c : ContextColumns) (next : Next) (k : ClauseColumns) (p : ClausePhase text 5 c next k) where
-  pub reads-clause : (x : Refusal) (r : Reading) → next ≡ N.Refused x → r ≡ record { answer = Refused x; context = noContext; clause = noClause } → Reads text r
-  reads-clause x r e f = refused-reads text x r (subst (λ (y : Next). ClausePhase text 5 c y k) e p) f
+told-same : (r : M.Reading) → T.toldOf r ≡ toldOf r
+told-same (faulty f) = refl
+told-same (taken s) = refl
 
-  module _ (q : Place) (e : next ≡ N.At q) where
-    pub reads-last : (x : Refusal) (r : Reading) → LastFault text (q .at) (q .line) x
-        → r ≡ record { answer = Refused x; context = noContext; clause = noClause } → Reads text r
-    reads-last x r l f = refused-reads text x r (l .fault c k (clause-stands text 5 c next k p q e)) f
+context-same : (r : M.Reading) → contextColumns (T.readOf r .ledger) ≡ contextOf r
+unfolding contextColumns noContext pad fours
+context-same (faulty f) = refl
+context-same (taken s) = refl
 
-    pub reads-taken : length text ≤ q .at → Reads text (record { answer = Taken; context = c; clause = k })
-    unfolding linesOf linesFrom readLines
-    reads-taken b =
-        let h = clause-stands text 5 c next k p q e in
-        let f : read narrow text ≡ taken (h .said) = h .same ∙ rw (drop-of-length-le text b) in
-        record { told = rw f; context = rw f (h .context); clause = rw f (h .clause) }
+clause-same : (r : M.Reading) → clauseColumns (T.readOf r .clause) ≡ clauseIn r
+unfolding clauseColumns noClause pad fours
+clause-same (faulty f) = refl
+clause-same (taken s) = refl
+
+pub reads-columns : (text : List ℕ) (t : Told) (a : Answer) (c : ContextColumns) (k : ClauseColumns) → T.Reads text t → toldBy a ≡ T.toldBy (t .answer)
+    → c ≡ contextLaid (t .rows) (t .filled .rows) (t .said) (t .filled .said) → k ≡ clauseLaid (t .patterns) (t .filled .patterns) (t .literals) (t .filled .literals)
+    → Reads text (record { answer = a; context = c; clause = k })
+reads-columns text t a c k h e f g =
+    let s = T.readOf (read narrow text) in
+    let w = told-kept text in
+    record {
+      told = e ∙ h .told ∙ told-same (read narrow text);
+      context =
+          f
+          ∙ context-agrees s w _ _ _ _ (h .rows .run-is) (h .rows .filled-is) (h .said .run-is) (h .said .filled-is)
+          ∙ context-same (read narrow text);
+      clause =
+          g
+          ∙ clause-agrees s w _ _ _ _ (h .patterns .run-is) (h .patterns .filled-is) (h .literals .run-is) (h .literals .filled-is)
+          ∙ clause-same (read narrow text);
+    }
 
 -- ---- one answer
 told-one : (a b : Answer) → toldBy a ≡ toldBy b → a ≡ b
@@ -68,4 +85,4 @@ reads-unique text r s p q =
     ∙ ap (λ (x : ContextColumns). record { answer = s .answer; context = x; clause = r .clause }) b
     ∙ ap (λ (x : ClauseColumns). record { answer = s .answer; context = s .context; clause = x }) c
 
-pub ruleset mine = (needs, context-at, reads-refused, reads-clause, reads-last, reads-taken)
+pub ruleset mine = (needs, answer-taken, answer-refused, reads-columns)

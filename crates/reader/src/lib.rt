@@ -1,19 +1,12 @@
-// The reader: any bytes to a context and a clause in columns, or the first fault by number, line and byte.
-mod clause;
-mod last;
-
-use clause::no_clause;
-use clause::read_clause;
-use last::last_fault;
+// The reader over columns: what `text_reader` tells, laid out in columns.
+use bridge::clause_columns;
+use bridge::context_columns;
 use ledger::ClauseColumns;
 use ledger::ContextColumns;
-use ledger::context::Next;
-use ledger::context::no_context;
-use ledger::context::read_context;
 use replies::Refusal;
 ghost use mathlib.Core.Path.{_≡_};
-ghost use Rattle.ledger.specs.Columns.{noContext, noClause};
-ghost use Rattle.reader.specs.Reads.{Reads};
+ghost use Rattle.told.specs.Reads as T;
+ghost use Rattle.reader.specs.Reads.{toldBy, Reads};
 
 pub enum Answer {
     Taken,
@@ -26,17 +19,12 @@ pub struct Reading {
     pub clause: ClauseColumns,
 }
 
-// A refusal, with the columns of the empty text.
-fn refused(x: Refusal) -> Reading
-    ensures { λ r. ⌜ r ≡ record { answer = Answer.Refused x; context = noContext; clause = noClause } ⌝ }
+fn answer_of(a: told::Answer) -> Answer
+    ensures { λ r. ⌜ toldBy r ≡ T.toldBy a ⌝ }
 {
-    let answer = Answer::Refused(x);
-    let context = no_context();
-    let clause = no_clause();
-    Reading {
-        answer,
-        context,
-        clause,
+    match a {
+        told::Answer::Taken => Answer::Taken,
+        told::Answer::Refused(x) => Answer::Refused(x),
     }
 }
 
@@ -44,25 +32,12 @@ fn refused(x: Refusal) -> Reading
 pub fn read(text: &[u8]) -> Reading
     ensures reads { λ r. ⌜ Reads (now (text .entry)) r ⌝ }
 {
-    let first = read_context(text);
-    let next = first.next;
-    let p = match next {
-        Next::At(p) => p,
-        Next::Refused(x) => return refused(x),
-    };
-    let context = first.columns;
-    let second = read_clause(text, p, context);
-    let after = second.next;
-    let q = match after {
-        Next::At(q) => q,
-        Next::Refused(x) => return refused(x),
-    };
-    let at = q.at;
-    if at < text.len() {
-        return refused(last_fault(text, at, q.line));
-    }
-    let answer = Answer::Taken;
-    let clause = second.columns;
+    let t = text_reader::read(text);
+    let a = t.answer;
+    let f = t.filled;
+    let answer = answer_of(a);
+    let context = context_columns(&t.rows, f.rows, &t.said, f.said);
+    let clause = clause_columns(&t.patterns, f.patterns, &t.literals, f.literals);
     Reading {
         answer,
         context,

@@ -1,5 +1,6 @@
 -- The runs that are told say the context and the rule that were read.
 --     numbers-snoc                          the numbers of one piece more
+--     told-kept                             what is told is within the limits
 --     says-context, says-clause             the filled parts of the runs say what was read
 -- Assumes nothing.
 use mathlib.Core.List.{List, [], _∷_, _++_, append-assoc, append-nil}
@@ -102,15 +103,15 @@ kept : (r : M.Reading) → ((s : Read) → r ≡ taken s → Kept narrow s) → 
 kept (faulty f) h = nothing-kept narrow
 kept (taken s) h = h s refl
 
-module _ (text : List ℕ) (r : Told) (h : Reads text r) where
-  told-kept : Kept narrow (readOf (read narrow text))
-  told-kept = kept (read narrow text) (λ s e. read-kept narrow text s e)
+pub told-kept : (text : List ℕ) → Kept narrow (readOf (read narrow text))
+told-kept text = kept (read narrow text) (λ s e. read-kept narrow text s e)
 
+module _ (text : List ℕ) (r : Told) (h : Reads text r) where
   pub says-context : contextOf (take (r .filled .rows) (r .rows)) (take (r .filled .said) (r .said)) ≡ readOf (read narrow text) .ledger .context
   unfolding R.rowsOf statementsOf R.each
   says-context =
       let a = says-all rowNumbers 6 R.rowsOf (RowFits narrow) row-more (λ x f. omega (arith, pad-length (x .args) (f .0))) refl
-      (rowsOf (readOf (read narrow text))) (told-kept .contextFits .rowsFit) in
+      (rowsOf (readOf (read narrow text))) (told-kept text .contextFits .rowsFit) in
       let b = says-all saidNumbers 3 statementsOf (λ x. Unit {0}) (λ x w n p e. said-more x w n e) (λ x p. refl) refl
       (readOf (read narrow text) .ledger .context .statements) (any (readOf (read narrow text) .ledger .context .statements)) in
       ap₂ (λ (x y : List ℕ). contextOf x y) (filled-part (h .rows)) (filled-part (h .said))
@@ -120,7 +121,7 @@ module _ (text : List ℕ) (r : Told) (h : Reads text r) where
   unfolding R.patternsOf literalsOf R.each
   says-clause =
       let a = says-all patternNumbers 7 R.patternsOf (PatternFits narrow) pattern-more pattern-length refl
-      (patternsOf (readOf (read narrow text))) (told-kept .clauseFits .patternsFit) in
+      (patternsOf (readOf (read narrow text))) (told-kept text .clauseFits .patternsFit) in
       let b = says-all literalNumbers 3 literalsOf (λ x. Unit {0}) (λ x w n p e. literal-more x w n e) (λ x p. refl) refl
       (readOf (read narrow text) .clause .literals) (any (readOf (read narrow text) .clause .literals)) in
       ap₂ (λ (x y : List ℕ). clauseOf x y) (filled-part (h .patterns)) (filled-part (h .literals))
