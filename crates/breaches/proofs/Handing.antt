@@ -3,7 +3,7 @@
 --     head-left, head-whole      a line that was not taken; the line, and then the list
 -- Assumes nothing.
 use mathlib.Core.Bool.{Bool, true, not}
-use mathlib.Core.List.{List, [], _++_, append-nil}
+use mathlib.Core.List.{List, [], append-nil}
 use mathlib.Core.Path.{_≡_, refl, sym, subst, _∙_}
 use Prim.Native.Nat.{ℕ, _-_, _≤_}
 use borrow.Author.Tests.{not-true}

@@ -5,7 +5,6 @@
 --     ListedFrom       the pieces from a state on, until the list is done
 -- Assumes nothing.
 use mathlib.Core.List.{List, []}
-use mathlib.Core.Path.{_≡_}
 use Prim.Native.Nat.{ℕ}
 use Rattle.meaning.specs.Text.{narrow}
 use Rattle.meaning.specs.Listing.{BreachesPrints}

@@ -13,8 +13,6 @@ use channels::telling::tell;
 use ledger::ClauseColumns;
 use ledger::ContextColumns;
 use listing::State;
-ghost use lib.ListN.{length};
-ghost use mathlib.Core.Path.{_≡_};
 ghost use Rattle.meaning.specs.Text.{narrow};
 ghost use Rattle.meaning.specs.Listing.{BreachesPrints};
 ghost use Rattle.listing.specs.Filling.{Lent, Runs};

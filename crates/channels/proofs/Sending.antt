@@ -1,27 +1,36 @@
 -- What became of bytes that were handed over, part by part.
---     sends-whole, sends-left, sends-failed    the ways out of `send`
+--     sends-whole, sends-stopped, sends-failed the ways out of `send`
 --     both-whole, both-left, both-failed       the ways out of `both`
 --     carries-none, carries-left, carries-both nothing; what was not taken whole; one part and then another
 --     delivers-one, delivers-none              bytes that are the output; what was not taken whole
 --     delivers-after                           bytes, and then an output
 -- Assumes nothing.
-use mathlib.Core.Bool.{Bool, true, false}
+use mathlib.Core.Bool.{true, false}
 use mathlib.Core.List.{List, [], _++_}
-use mathlib.Core.Path.{_≡_, refl, sym, ap, ap₂, _∙_}
+use mathlib.Core.Path.{_≡_, refl, sym, ap, _∙_}
 use Prim.Native.Nat.{ℕ, _+_, _%_, _^_, _≤_, _<_}
 use native.Mathlib.Omega.{arith}
 use borrow.Author.Needs.{needs}
 use lib.ListN.{length, length-append}
+use Rattle.channels.specs.declared.moves.Move.{Move}
+use Rattle.channels.specs.declared.moves.Move.the-variants as M
 use Rattle.channels.specs.declared.output.Fate.{Fate}
 use Rattle.channels.specs.declared.output.Fate.the-variants.{Whole, Left, Failed}
 use Rattle.channels.specs.declared.output.Sent.{Sent}
-use Rattle.channels.specs.Sending.{noneSent, bothOf, wholeBy, Carries, Delivers}
+use Rattle.channels.specs.Sending.{stopOf, noneSent, bothOf, wholeBy, Carries, Delivers}
 
 pub sends-whole : (bytes : List ℕ) (done : ℕ) → done ≤ length bytes → length bytes ≤ done → length bytes < 2 ^ 64 → Carries bytes (record { fate = Whole; count = done })
 sends-whole bytes done h g f = record { size = λ e. omega arith }
 
-pub sends-left : (bytes : List ℕ) (done : ℕ) → Carries bytes (record { fate = Left; count = done })
-sends-left bytes done = record { size = λ e. absurd (let z : _≡_ {A = ℕ} 0 1 = cc in omega arith) }
+pub sends-stopped : (bytes : List ℕ) (done : ℕ) (m : Move) (f : Fate) → f ≡ stopOf m → Carries bytes (record { fate = f; count = done })
+sends-stopped bytes done m f h = record { size = λ e. absurd (go m (sym h ∙ e)) }
+  where
+    go : (x : Move) → stopOf x ≡ Whole → ⊥
+    go M.Left e = let z : _≡_ {A = ℕ} 0 1 = cc in omega arith
+    go (M.Bytes n) e = let z : _≡_ {A = ℕ} 0 1 = cc in omega arith
+    go M.End e = let z : _≡_ {A = ℕ} 0 1 = cc in omega arith
+    go M.Again e = let z : _≡_ {A = ℕ} 0 1 = cc in omega arith
+    go M.Failed e = let z : _≡_ {A = ℕ} 0 1 = cc in omega arith
 
 pub sends-failed : (bytes : List ℕ) (done : ℕ) → Carries bytes (record { fate = Failed; count = done })
 sends-failed bytes done = record { size = λ e. absurd (let z : _≡_ {A = ℕ} 0 1 = cc in omega arith) }
@@ -91,4 +100,4 @@ delivers-after P Q x a b r c d f e =
 pub delivers-none : (Prints : List ℕ → Type 0) (s : Sent) → wholeBy (s .fate) ≡ false → Delivers Prints s
 delivers-none Prints s h = record { whole = λ e. absurd (let z : true ≡ false = sym (ap wholeBy e) ∙ h in let y : _≡_ {A = ℕ} 0 1 = cc in omega arith) }
 
-pub ruleset mine = (needs, sends-whole, sends-left, sends-failed, both-whole, both-left, both-failed)
+pub ruleset mine = (needs, sends-whole, sends-stopped, sends-failed, both-whole, both-left, both-failed)

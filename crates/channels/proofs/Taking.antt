@@ -1,5 +1,6 @@
 -- Bytes read into a space, part by part.
 --     takes-bytes, takes-failed    the ways out
+--     ended-there, takes-ended     the end of the input; an answer that moved nothing
 --     takes-same                   an answer that is handed on
 --     takes-within, takes-read     what was read stands in the space; that is all that was read
 -- Assumes nothing.
@@ -12,13 +13,28 @@ use lib.ListN.{length, take}
 use lib.Seq.{length-take-le}
 use Rattle.channels.specs.declared.input.Got.{Got}
 use Rattle.channels.specs.declared.input.Got.the-variants.{Bytes, Failed}
-use Rattle.channels.specs.Taking.{Takes, Read}
+use Rattle.channels.specs.declared.moves.Move.{Move}
+use Rattle.channels.specs.declared.moves.Move.the-variants as M
+use Rattle.channels.specs.Taking.{endOf, Takes, Read}
 
 pub takes-bytes : (n : ℕ) (space : List ℕ) → n ≤ length space → Takes (Bytes n) space
 takes-bytes n space h = record { within = λ k e. let z : k ≡ n = cc in omega arith }
 
 pub takes-failed : (space : List ℕ) → Takes Failed space
 takes-failed space = record { within = λ k e. absurd (let z : _≡_ {A = ℕ} 0 1 = cc in omega arith) }
+
+pub ended-there : (m : Move) (done : ℕ) → m ≡ M.End → Bytes done ≡ endOf m done
+ended-there m done e = ap (λ (x : Move). endOf x done) (sym e)
+
+pub takes-ended : (m : Move) (done : ℕ) (r : Got) (space : List ℕ) → r ≡ endOf m done → done ≤ length space → Takes r space
+takes-ended m done r space e h = subst (λ (g : Got). Takes g space) (sym e) (go m)
+  where
+    go : (x : Move) → Takes (endOf x done) space
+    go M.End = takes-bytes done space h
+    go (M.Bytes n) = takes-failed space
+    go M.Again = takes-failed space
+    go M.Left = takes-failed space
+    go M.Failed = takes-failed space
 
 pub takes-same : (q r : Got) (space : List ℕ) → r ≡ q → Takes q space → Takes r space
 takes-same q r space e t = subst (λ (g : Got). Takes g space) (sym e) t
@@ -29,4 +45,4 @@ takes-within r space n t e = t .within n e
 pub takes-read : (r : Got) (space : List ℕ) (n : ℕ) → Takes r space → r ≡ Bytes n → Read (Bytes n) (take n space)
 takes-read r space n t e = record { all = ap Bytes (sym (length-take-le n space (t .within n e))) }
 
-pub ruleset mine = (needs, takes-bytes, takes-failed, takes-same)
+pub ruleset mine = (needs, ended-there, takes-bytes, takes-failed, takes-same)

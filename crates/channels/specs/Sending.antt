@@ -1,4 +1,5 @@
 -- What became of bytes that were handed over.
+--     stopOf              by an answer that took nothing: nobody reads any more, or a failure
 --     noneSent, bothOf    nothing yet; one part, and then another
 --     wholeBy             whether every byte was taken
 --     Carries             then as many were taken as there were, by 64 bits
@@ -9,9 +10,18 @@ use mathlib.Core.List.{List}
 use mathlib.Core.Path.{_≡_}
 use Prim.Native.Nat.{ℕ, _+_, _%_, _^_}
 use lib.ListN.{length}
+use Rattle.channels.specs.declared.moves.Move.{Move}
+use Rattle.channels.specs.declared.moves.Move.the-variants as M
 use Rattle.channels.specs.declared.output.Fate.{Fate}
 use Rattle.channels.specs.declared.output.Fate.the-variants.{Whole, Left, Failed}
 use Rattle.channels.specs.declared.output.Sent.{Sent}
+
+abbrev pub stopOf : Move → Fate
+stopOf M.Left = Left
+stopOf (M.Bytes n) = Failed
+stopOf M.End = Failed
+stopOf M.Again = Failed
+stopOf M.Failed = Failed
 
 abbrev pub noneSent : Sent
 noneSent = record { fate = Whole; count = 0 }

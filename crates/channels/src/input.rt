@@ -6,7 +6,7 @@ ghost use mathlib.Core.Path.{_≡_};
 ghost use Prim.Native.Nat.{suc};
 ghost use lib.ListN.{replicate};
 ghost use Rattle.meaning.specs.Replies.{inputLimit};
-ghost use Rattle.channels.specs.Taking.{pieceSpace, Takes};
+ghost use Rattle.channels.specs.Taking.{pieceSpace, endOf, Takes};
 
 // One byte more than a program takes, so that an input that is too long is known.
 pub const INPUT_SPACE: usize = INPUT_LIMIT + 1;
@@ -32,6 +32,19 @@ pub fn piece_space() -> [u8; PIECE_SPACE]
     [0; PIECE_SPACE]
 }
 
+// What an answer that moved nothing says of the input: that it ended, or that it could not be read.
+fn ended(moved: Move, done: usize) -> Got
+    ensures { λ r. ⌜ r ≡ endOf moved done ⌝ }
+{
+    match moved {
+        Move::End => Got::Bytes(done),
+        Move::Bytes(_) => Got::Failed,
+        Move::Again => Got::Failed,
+        Move::Left => Got::Failed,
+        Move::Failed => Got::Failed,
+    }
+}
+
 // Reads until the space is full or the input ends. A read that a signal interrupted is tried again; nothing says that this ends, so the tries
 // are counted down from a number that no run uses up.
 fn fill(space: &mut [u8]) -> Got
@@ -43,14 +56,13 @@ fn fill(space: &mut [u8]) -> Got
         let moved = read_once(libc::STDIN_FILENO, &mut space[done..]);
         match moved {
             Move::Bytes(n) => done += n,
-            Move::End => return Got::Bytes(done),
             Move::Again => {
                 if tries == 0 {
                     return Got::Failed;
                 }
                 tries -= 1;
             }
-            _ => return Got::Failed,
+            _ => return ended(moved, done),
         }
     }
     Got::Bytes(done)

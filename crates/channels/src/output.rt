@@ -2,7 +2,7 @@
 use crate::moves::Move;
 use crate::moves::write_once;
 ghost use mathlib.Core.Path.{_≡_};
-ghost use Rattle.channels.specs.Sending.{Carries, noneSent, bothOf, wholeBy};
+ghost use Rattle.channels.specs.Sending.{stopOf, Carries, noneSent, bothOf, wholeBy};
 
 // Every byte was taken; nobody reads any more; or it failed, which was said on standard error.
 pub enum Fate {
@@ -55,6 +55,19 @@ pub fn is_whole(s: Sent) -> bool
     }
 }
 
+// What an answer that took nothing says of the bytes: that nobody reads any more, or that they could not be written.
+fn stopped(moved: Move) -> Fate
+    ensures { λ r. ⌜ r ≡ stopOf moved ⌝ }
+{
+    match moved {
+        Move::Left => Fate::Left,
+        Move::Bytes(_) => Fate::Failed,
+        Move::End => Fate::Failed,
+        Move::Again => Fate::Failed,
+        Move::Failed => Fate::Failed,
+    }
+}
+
 // Writes until every byte is taken. A write that a signal interrupted is tried again, as a read is; one that takes nothing has failed.
 pub(crate) fn send(fd: i32, bytes: &[u8]) -> Sent
     ensures { λ r. ⌜ Carries (now (bytes .entry)) r ⌝ }
@@ -74,17 +87,9 @@ pub(crate) fn send(fd: i32, bytes: &[u8]) -> Sent
                 }
                 tries -= 1;
             }
-            Move::Left => {
-                return Sent {
-                    fate: Fate::Left,
-                    count: done,
-                };
-            }
             _ => {
-                return Sent {
-                    fate: Fate::Failed,
-                    count: done,
-                };
+                let fate = stopped(moved);
+                return Sent { fate, count: done };
             }
         }
     }

@@ -3,7 +3,7 @@
 --     line-prints    they are what has to be printed
 -- Assumes nothing.
 use mathlib.Core.List.{List}
-use mathlib.Core.Path.{_≡_, sym, subst}
+use mathlib.Core.Path.{sym, subst}
 use Prim.Native.Nat.{ℕ, _-_, _≤_}
 use borrow.Author.Needs.{needs}
 use lib.ListN.{length, take, replicate}

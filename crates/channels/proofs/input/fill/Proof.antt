@@ -4,7 +4,7 @@ use mathlib.Core.Path.{_≡_}
 use Prim.Native.Nat.{_+_, _-_, _≤_}
 use native.Mathlib.Omega.{arith}
 use lib.ListN.{length}
-use Rattle.channels.proofs.Taking.{takes-bytes, mine}
+use Rattle.channels.proofs.Taking.{takes-ended, mine}
 use Rattle.channels.proofs.input.fill.Statement.{statement}
 use Rattle.channels.proofs.input.fill.Tie as tie
 
@@ -48,16 +48,7 @@ same-length : tie.Need-same-length Inv-loop μ-loop
 same-length c = search mine
 
 returns : tie.Need-returns Inv-loop μ-loop
-returns c = takes-bytes _ _ (omega arith)
-
-enum-told-2 : tie.Need-enum-told-2 Inv-loop μ-loop
-enum-told-2 c = search mine
-
-same-length-2 : tie.Need-same-length-2 Inv-loop μ-loop
-same-length-2 c = search mine
-
-returns-2 : tie.Need-returns-2 Inv-loop μ-loop
-returns-2 c = search mine
+returns c = search mine
 
 sub-tries : tie.Need-sub-tries Inv-loop μ-loop
 sub-tries c = search mine
@@ -68,17 +59,20 @@ loop-less-2 c = search mine
 loop-again-2 : tie.Need-loop-again-2 Inv-loop μ-loop
 loop-again-2 c = search mine
 
+ended-requires : tie.Need-ended-requires Inv-loop μ-loop
+ended-requires c κs = search mine
+
+same-length-2 : tie.Need-same-length-2 Inv-loop μ-loop
+same-length-2 c = search mine
+
+returns-2 : tie.Need-returns-2 Inv-loop μ-loop
+returns-2 c = takes-ended (c .before .before .before .before .read-once .result) (c .before .before .before .before .before .before .before .loop .done) _ _ (c .ended .ensures) (omega arith)
+
 same-length-3 : tie.Need-same-length-3 Inv-loop μ-loop
 same-length-3 c = search mine
 
 returns-3 : tie.Need-returns-3 Inv-loop μ-loop
 returns-3 c = search mine
-
-same-length-4 : tie.Need-same-length-4 Inv-loop μ-loop
-same-length-4 c = search mine
-
-returns-4 : tie.Need-returns-4 Inv-loop μ-loop
-returns-4 c = search mine
 
 pub fill-spec : {M : Type 1} → statement M
 fill-spec =
@@ -98,13 +92,11 @@ fill-spec =
     enum-told
     same-length
     returns
-    enum-told-2
-    same-length-2
-    returns-2
     sub-tries
     loop-less-2
     loop-again-2
+    ended-requires
+    same-length-2
+    returns-2
     same-length-3
-    returns-3
-    same-length-4
-    returns-4)
+    returns-3)

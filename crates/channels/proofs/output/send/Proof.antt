@@ -55,17 +55,14 @@ loop-less-2 c = search mine
 loop-again-2 : tie.Need-loop-again-2 Inv-loop μ-loop
 loop-again-2 c = search mine
 
-enum-told-2 : tie.Need-enum-told-2 Inv-loop μ-loop
-enum-told-2 c = search mine
+stopped-requires : tie.Need-stopped-requires Inv-loop μ-loop
+stopped-requires c κs = search mine
 
 returns-2 : tie.Need-returns-2 Inv-loop μ-loop
 returns-2 c = search mine
 
 returns-3 : tie.Need-returns-3 Inv-loop μ-loop
 returns-3 c = search mine
-
-returns-4 : tie.Need-returns-4 Inv-loop μ-loop
-returns-4 c = search mine
 
 pub send-spec : {M : Type 1} → statement M
 send-spec =
@@ -87,7 +84,6 @@ send-spec =
     sub-tries
     loop-less-2
     loop-again-2
-    enum-told-2
+    stopped-requires
     returns-2
-    returns-3
-    returns-4)
+    returns-3)
