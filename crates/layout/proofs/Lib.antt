@@ -1,0 +1,3 @@
+-- The root of the laws.
+pub mod Laying
+pub mod Agreeing
