@@ -1,0 +1,4 @@
+pub mod Entries
+pub mod Keys
+pub mod Limits
+pub mod Pairs
