@@ -1,7 +1,7 @@
 -- The ways out of the finder: what is answered to well-formed columns, and to a text.
 --     lent, hunt-answers          what is lent to the search, and what it answers to well-formed columns
 --     unfit-not-none, no-unfit    a search's failure is not told as none, and no text is told it
---     ready-closed                where a rule is ready, the table is the closing
+--     find-sound                  what was laid out of a text is sound
 --     find-refused, find-found    the refusal, and the first breach or none
 --     finds-one                   two replies to one text are equal
 -- Assumes nothing.
@@ -27,18 +27,24 @@ use Rattle.differing.specs.Knowing.{Lends}
 use Rattle.differing.proofs.Knowing.{knows-start}
 use Rattle.search.specs.Hunting.{answerOf}
 use Rattle.search.specs.Finding.{foundBy, FindsIn, fits, unfits}
+use Rattle.search.specs.declared.Reply.{Reply as Searched}
 use Rattle.search.specs.declared.Kind.{Kind}
 use Rattle.search.specs.declared.Kind.the-variants as S
-use Rattle.search.specs.declared.Reply.{Reply as Searched}
-use Rattle.prepared.specs.Claims.{said, asked, Asks, Prepares}
+use Rattle.prepared.specs.Claims.{said, asked, Asks}
+use Rattle.hunting.specs.Laid as H
+use Rattle.hunting.specs.Laid.{Lays}
+use Rattle.hunting.specs.declared.Laid.{Laid}
+use Rattle.hunting.proofs.Laying.{lays-sound, hunt-done}
+use Rattle.ruling.specs.Claims.{rowsIn, saidIn, patternsIn, literalsIn, contextIn, clauseIn, Rules}
+use Rattle.ruling.specs.declared.Answer.the-variants as A
+use Rattle.ruling.specs.declared.Ruled.{Ruled}
+use Rattle.ruling.proofs.Saying.{part-long}
+use Rattle.ruling.proofs.Ruling.{refused-answers}
 use Rattle.finder.specs.Claims.{MarkedIn, refusedWith, answeredWith, Finds}
-use Rattle.prepared.specs.declared.Answer.the-variants as A
-use Rattle.prepared.specs.declared.Prepared.{Prepared}
 use Rattle.replies.specs.declared.Outcome.{Outcome}
 use Rattle.replies.specs.declared.Outcome.the-variants as O
 use Rattle.replies.specs.declared.Reply.{Reply}
-use Rattle.prepared.proofs.Preparing.{ready-asks, refused-answers}
-use Rattle.finder.proofs.Ready.{ready-replies}
+use Rattle.finder.proofs.Standing.{told-filled, told-ready, ready-replies}
 
 pub lent : (c : ContextColumns) (t marks : List ℕ) → Promise (said c) 255 t → MarkedIn c t marks
     → Lends (c .symbols) (c .counts) (c .args) (c .rows) (c .kinds) (c .lefts) (c .rights) (c .statements) t marks
@@ -88,23 +94,27 @@ no-unfit text places p = go (p .reply) (p .replies) (p .told)
 
 -- ---- the reply to a text
 
-module _ (text : List ℕ) (p : Prepared) (prepares : Prepares text p) where
-  pub ready-closed : Promise (said (p .context)) 255 (p .table)
-  ready-closed = prepares .closed
-
+module _ (text : List ℕ) (p : Ruled) (rules : Rules text p) where
   pub find-refused : (x : Refusal) → p .answer ≡ A.Refused x → (y : Reply) → y ≡ refusedWith x → Finds text y
   unfolding refusedWith placesOf
   find-refused x e y q =
-      rw q record { reply = refused (meant x); replies = refused-answers text p prepares x e; told = refl; places = refl }
+      rw q record { reply = refused (meant x); replies = refused-answers text p rules x e; told = refl; places = refl }
 
-  pub find-found : p .answer ≡ A.Ready → (x : Searched) → x ≡ answerOf (foundBy (said (p .context)) (p .table) (asked (p .clause)))
-      → (y : Reply) → y ≡ answeredWith (x .kind) (x .places) → Finds text y
+  -- what was laid out of it is searched
+  pub find-found : p .answer ≡ A.Ready → (l : Laid) → Lays (rowsIn (p .told)) (saidIn (p .told)) (patternsIn (p .told)) (literalsIn (p .told)) (p .table) l
+      → (x : Searched) → x ≡ answerOf (foundBy (H.contextIn l) (l .table) (H.ruleIn l)) → (y : Reply) → y ≡ answeredWith (x .kind) (x .places) → Finds text y
   unfolding answerOf placesOf
-  find-found e x q y w = rw (w, q) (go (foundBy (said (p .context)) (p .table) (asked (p .clause))) (ready-replies text p prepares e))
+  find-found e l h x q y w =
+      let z : x ≡ answerOf (foundBy (contextIn (p .told)) (p .table) (clauseIn (p .told))) =
+      hunt-done (rowsIn (p .told)) (saidIn (p .told)) (patternsIn (p .told)) (literalsIn (p .told)) (p .table) (told-ready text p rules) l h x q in
+      rw (w, z) (go (foundBy (contextIn (p .told)) (p .table) (clauseIn (p .told))) (ready-replies text p rules e))
     where
       go : (f : Found) → Replies narrow text (replyOf f) → Finds text (answeredWith (answerOf f .kind) (answerOf f .places))
       go (found a) h = record { reply = breach a; replies = h; told = refl; places = refl }
       go nothing h = record { reply = none; replies = h; told = refl; places = refl }
+
+  pub find-sound : (l : Laid) → Lays (rowsIn (p .told)) (saidIn (p .told)) (patternsIn (p .told)) (literalsIn (p .told)) (p .table) l → H.Sound l
+  find-sound l h = lays-sound (rowsIn (p .told)) (saidIn (p .told)) (patternsIn (p .told)) (literalsIn (p .told)) (p .table) (told-ready text p rules) l h
 
 -- ---- one reply
 
@@ -130,4 +140,4 @@ finds-one text r s p q =
     let l : r .places ≡ s .places = p .places ∙ ap placesOf e ∙ sym (q .places) in
     ap₂ (λ (x : Outcome) (y : List ℕ). record { outcome = x; places = y }) o l
 
-pub ruleset mine = (needs, lent, knows-start, hunt-answers, answered-breach, answered-clear, answered-unfit, find-refused, ready-asks, ready-closed, find-found)
+pub ruleset mine = (needs, lent, knows-start, hunt-answers, answered-breach, answered-clear, answered-unfit, told-filled, told-ready, part-long, find-refused, find-sound, find-found)

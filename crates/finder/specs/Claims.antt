@@ -1,12 +1,13 @@
 -- What the finder claims of its answers.
 --     MarkedIn                    the marks of a context's busy classes, by a table
+--     Parts, Filled               as much of each run is filled as there is
 --     refusedWith, answeredWith   the reply that is a refusal, and the one that a search's answer gives
 --     Finds                       the reply to a text, with the four places handed over
 -- Assumes nothing.
 use mathlib.Core.List.{List}
 use mathlib.Core.Path.{_≡_}
-use Prim.Native.Nat.{ℕ}
-use lib.ListN.{replicate}
+use Prim.Native.Nat.{ℕ, _≤_}
+use lib.ListN.{length, replicate}
 use Rattle.meaning.specs.Text.{narrow}
 use Rattle.meaning.specs.Replies as M
 use Rattle.meaning.specs.Replies.{placesOf, Replies}
@@ -17,13 +18,24 @@ use Rattle.ledger.specs.declared.ContextColumns.{ContextColumns}
 use Rattle.replies.specs.declared.Refusal.{Refusal}
 use Rattle.replies.specs.declared.Outcome.the-variants.{Breach, Clear, Refused}
 use Rattle.replies.specs.declared.Reply.{Reply}
+use Rattle.runs.specs.Limits.{mostVariables, unusedPlace}
+use Rattle.told.specs.declared.Told.{Told}
 use Rattle.replies.specs.Told.{toldBy, toldOf}
 
 pub record MarkedIn (c : ContextColumns) (table marks : List ℕ) : Type 0 where
   pub so : MarksOf (c .symbols) (c .counts) (c .args) (c .rows) (c .kinds) (c .lefts) (c .rights) (c .statements) table marks
 
+pub record Parts (rows : List ℕ) (r : ℕ) (said : List ℕ) (s : ℕ) (patterns : List ℕ) (p : ℕ) (literals : List ℕ) (l : ℕ) : Type 0 where
+  pub in-rows : r ≤ length rows
+  pub in-said : s ≤ length said
+  pub in-patterns : p ≤ length patterns
+  pub in-literals : l ≤ length literals
+
+pub record Filled (t : Told) : Type 0 where
+  pub parts : Parts (t .rows) (t .filled .rows) (t .said) (t .filled .said) (t .patterns) (t .filled .patterns) (t .literals) (t .filled .literals)
+
 unfoldable pub refusedWith : Refusal → Reply
-refusedWith x = record { outcome = Refused x; places = replicate 4 255 }
+refusedWith x = record { outcome = Refused x; places = replicate mostVariables unusedPlace }
 
 abbrev pub answeredWith : Kind → List ℕ → Reply
 answeredWith (S.Breach n) places = record { outcome = Breach n; places = places }

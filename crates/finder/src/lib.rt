@@ -1,18 +1,29 @@
 // The finder: the first breach of a text's rule, or the first after an assignment, none, or a refusal.
+use hunting::Laid;
+use hunting::hunt_after_with;
+use hunting::hunt_with;
+use hunting::unknown;
 use ledger::ClauseColumns;
 use ledger::ContextColumns;
-use prepared::Answer;
-use prepared::prepare;
 use replies::Outcome;
 use replies::Refusal;
 use replies::Reply;
+use ruling::Answer;
+use ruling::rule;
+use runs::limits::ROWS;
+use runs::limits::UNUSED;
+use runs::limits::VARIABLES;
 use search::Kind;
+use told::Told;
 ghost use mathlib.Core.Path.{_≡_};
+ghost use lib.ListN.{take};
 ghost use Rattle.meaning.specs.Equality.{Promise};
+ghost use Rattle.hunting.specs.Laid.{Ready, Lays};
+ghost use Rattle.ruling.specs.Claims.{rowsIn, saidIn, patternsIn, literalsIn};
 ghost use Rattle.search.specs.Hunting.{answerOf};
-ghost use Rattle.search.specs.Finding.{foundBy, laterBy};
+ghost use Rattle.search.specs.Finding.{foundBy};
 ghost use Rattle.prepared.specs.Claims.{said, asked, Asks};
-ghost use Rattle.finder.specs.Claims.{MarkedIn, refusedWith, answeredWith, Finds};
+ghost use Rattle.finder.specs.Claims.{MarkedIn, Parts, Filled, refusedWith, answeredWith, Finds};
 ghost use Rattle.finder.specs.Following.{Follows};
 
 fn refused(x: Refusal) -> Reply
@@ -21,7 +32,7 @@ fn refused(x: Refusal) -> Reply
     let outcome = Outcome::Refused(x);
     Reply {
         outcome,
-        places: [255; 4],
+        places: [UNUSED; VARIABLES],
     }
 }
 
@@ -81,51 +92,53 @@ pub fn hunt(c: ContextColumns, table: [u16; 255], k: ClauseColumns) -> search::R
     )
 }
 
-// The first breach after an assignment. The table is the context's closing.
-fn hunt_after(
-    c: ContextColumns,
-    table: [u16; 255],
-    k: ClauseColumns,
-    after: [u16; 4],
-) -> search::Reply
-    requires { ⌜ Asks c k ⌝ }
-    requires { ⌜ Promise (said c) 255 table ⌝ }
-    ensures { λ r. ⌜ r ≡ answerOf (laterBy (said c) table (asked k) after) ⌝ }
+// The first numbers of four runs, laid out for a search.
+fn lay_parts<'a>(
+    rows: &'a [u16],
+    r: usize,
+    said: &'a [u16],
+    s: usize,
+    patterns: &'a [u16],
+    p: usize,
+    literals: &'a [u16],
+    l: usize,
+    table: [u16; ROWS],
+) -> Laid
+    requires { ⌜ Parts (now rows) r (now said) s (now patterns) p (now literals) l ⌝ }
+    requires { ⌜ Ready (take r (now rows)) (take s (now said)) (take p (now patterns)) (take l (now literals)) table ⌝ }
+    ensures { λ y. ⌜ Lays (take r (now (rows .entry))) (take s (now (said .entry))) (take p (now (patterns .entry))) (take l (now (literals .entry))) table y ⌝ }
 {
-    let rows = c.rows;
-    let statements = c.statements;
-    let patterns = k.patterns;
-    let literals = k.literals;
-    let marks = busy(c, table);
-    let mut known = differing::unknown();
-    search::next_with(
-        &c.symbols,
-        &c.counts,
-        &c.args,
-        rows,
-        &c.kinds,
-        &c.lefts,
-        &c.rights,
-        statements,
-        &table,
-        &table,
-        &marks,
-        &mut known,
-        &k.kinds,
-        &k.heads,
-        &k.counts,
-        &k.args,
-        patterns,
-        &k.signs,
-        &k.lefts,
-        &k.rights,
-        literals,
-        after,
+    hunting::lay(
+        &rows[..r],
+        &said[..s],
+        &patterns[..p],
+        &literals[..l],
+        table,
     )
 }
 
-// Well-formed columns are never told unfit; if they were, a refusal of a number that no text gets would say so.
-fn answered(kind: Kind, places: [u16; 4]) -> Reply
+// What was read, laid out for a search. The table is the context's closing.
+pub fn lay(t: Told, table: [u16; ROWS]) -> Laid
+    requires filled { ⌜ Filled t ⌝ }
+    requires ready { ⌜ Ready (rowsIn t) (saidIn t) (patternsIn t) (literalsIn t) table ⌝ }
+    ensures lays { λ r. ⌜ Lays (rowsIn t) (saidIn t) (patternsIn t) (literalsIn t) table r ⌝ }
+{
+    let n = t.filled;
+    lay_parts(
+        &t.rows,
+        n.rows,
+        &t.said,
+        n.said,
+        &t.patterns,
+        n.patterns,
+        &t.literals,
+        n.literals,
+        table,
+    )
+}
+
+// What was read is never told unfit; if it were, a refusal of a number that no text gets would say so.
+fn answered(kind: Kind, places: [u16; VARIABLES]) -> Reply
     ensures { λ r. ⌜ r ≡ answeredWith kind places ⌝ }
 {
     let outcome = match kind {
@@ -147,33 +160,35 @@ fn answered(kind: Kind, places: [u16; 4]) -> Reply
 pub fn find(text: &[u8]) -> Reply
     ensures finds { λ r. ⌜ Finds (now (text .entry)) r ⌝ }
 {
-    let p = prepare(text);
+    let p = rule(text);
     let answer = p.answer;
     if let Answer::Refused(x) = answer {
         return refused(x);
     }
-    let context = p.context;
-    let clause = p.clause;
+    let told = p.told;
     let table = p.table;
-    let r = hunt(context, table, clause);
+    let l = lay(told, table);
+    let mut known = unknown();
+    let r = hunt_with(l, &mut known);
     let kind = r.kind;
     let places = r.places;
     answered(kind, places)
 }
 
 // The first breach made of representatives after an assignment, none, or the refusal.
-pub fn next(text: &[u8], after: [u16; 4]) -> Reply
+pub fn next(text: &[u8], after: [u16; VARIABLES]) -> Reply
     ensures follows { λ r. ⌜ Follows (now (text .entry)) after r ⌝ }
 {
-    let p = prepare(text);
+    let p = rule(text);
     let answer = p.answer;
     if let Answer::Refused(x) = answer {
         return refused(x);
     }
-    let context = p.context;
-    let clause = p.clause;
+    let told = p.told;
     let table = p.table;
-    let r = hunt_after(context, table, clause, after);
+    let l = lay(told, table);
+    let mut known = unknown();
+    let r = hunt_after_with(l, &mut known, after);
     let kind = r.kind;
     let places = r.places;
     answered(kind, places)

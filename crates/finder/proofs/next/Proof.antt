@@ -1,11 +1,11 @@
--- `next` meets its contract: the refusal, or what the search answers to well-formed columns and an assignment.
+-- `next` meets its contract: the refusal, or what the search answers to what was read and an assignment.
 -- Assumes nothing.
 use Rattle.finder.proofs.Following.{mine}
 use Rattle.finder.proofs.next.Statement.{statement}
 use Rattle.finder.proofs.next.Tie as tie
 
-prepare-requires : tie.Need-prepare-requires
-prepare-requires c κs = search mine
+rule-requires : tie.Need-rule-requires
+rule-requires c κs = search mine
 
 enum-known-answer : tie.Need-enum-known-answer
 enum-known-answer c = search mine
@@ -19,8 +19,14 @@ returns c = search mine
 enum-told : tie.Need-enum-told
 enum-told c = search mine
 
-hunt-after-requires : tie.Need-hunt-after-requires
-hunt-after-requires c κs = search mine
+lay-requires : tie.Need-lay-requires
+lay-requires c κs = search mine
+
+unknown-requires : tie.Need-unknown-requires
+unknown-requires c κs = search mine
+
+hunt-after-with-requires : tie.Need-hunt-after-with-requires
+hunt-after-with-requires c κs = search mine
 
 answered-requires : tie.Need-answered-requires
 answered-requires c κs = search mine
@@ -32,11 +38,13 @@ pub next-spec : {M : Type 1} → statement M
 next-spec =
     tie.close
     (tie.spec
-    prepare-requires
+    rule-requires
     enum-known-answer
     refused-requires
     returns
     enum-told
-    hunt-after-requires
+    lay-requires
+    unknown-requires
+    hunt-after-with-requires
     answered-requires
     returns-2)
