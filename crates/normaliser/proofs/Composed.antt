@@ -1,128 +1,121 @@
--- A text that is read gives well-formed columns that say its context, and what is answered to those columns is answered to the text.
---     settle-represented, settle-clash, settle-wrote, settle-short   the ways out of the normaliser below the reader
---     normalise-refused, normalise-held, normalise-settled           and above it
---     normalise-one                                                  two answers to one text and one lent space are equal
+-- What the normaliser answers to a text that was read and closed.
+--     normalise-refused, normalise-clash      the reader's refusal; refusal 9
+--     normalise-writable, normalise-written   else the runs that were read can be written, and what is written is the normal text
+--     normalise-one                           two answers to one text and one lent space are equal
+--     mine                                    what the functions above the writer leave to show
 -- Assumes nothing.
 use mathlib.Core.List.{List, [], _∷_}
 use mathlib.Core.Path.{_≡_, refl, sym, ap, subst, _∙_}
-use Prim.Native.Nat.{ℕ, suc, _+_, _-_}
+use Prim.Native.Nat.{ℕ, suc, _+_, _≤_}
 use native.Mathlib.Omega.{arith}
 use native.Mathlib.Numerals.{add-one}
-use mir.Syntax.{w16}
+use mir.Syntax.{w16, w64}
 use mir.Val.{Fits}
 use borrow.Author.Needs.{needs}
-use Rattle.meaning.specs.Context.{Context, differences}
-use Rattle.meaning.specs.Equality.{repAt, Promise}
+use lib.ListN.{length}
+use Rattle.meaning.specs.Context.{Context}
+use Rattle.meaning.specs.Equality.{repAt}
 use Rattle.meaning.specs.Text as M
-use Rattle.meaning.specs.Text.{narrow, Read, faulty, taken, read}
-use Rattle.meaning.specs.ByTable.{clashOf}
-use Rattle.meaning.specs.Replies.{Settled, contradicts, normal, abnormal, refusal, Leaves, stays, Writes, NormalisesTo}
+use Rattle.meaning.specs.Text.{narrow, faulty, taken, read}
+use Rattle.meaning.specs.Replies.{Normalised, Settled, contradicts, normal, abnormal, refusal, Leaves, stays, Writes, NormalisesTo}
 use Rattle.meaning.proofs.Apartness.{clash-first}
 use Rattle.meaning.proofs.Answered.{settles-by, writes-one}
+use Rattle.runs.specs.Limits.{mostRows, mostStatements}
+use Rattle.runs.specs.Fit.{FitContext}
+use Rattle.runs.proofs.Saying.{length-rows}
 use Rattle.replies.specs.Told.{meant}
-use Rattle.ledger.specs.Columns.{contextColumns}
-use Rattle.reader.specs.Reads.{Reads, toldBy, toldOf, contextOf}
-use Rattle.reader.specs.declared.Answer.the-variants as R
-use Rattle.reader.specs.declared.Reading.{Reading}
 use Rattle.replies.specs.declared.Refusal.{Refusal}
-use Rattle.ledger.specs.declared.ContextColumns.{ContextColumns}
-use Rattle.closing.specs.Claims.{clashing}
-use Rattle.closing.specs.declared.Contradiction.{Contradiction}
-use Rattle.closing.specs.declared.Contradiction.the-variants.{First, Clear}
-use Rattle.prepared.specs.Claims.{said, Held, ClosedIn}
-use Rattle.closing.specs.declared.Classes.{Classes}
-use Rattle.prepared.proofs.Holding.{read-said, read-held, classes-promise, clash-high}
-use Rattle.normaliser.specs.Claims.{Represented, textBy, writtenBy, Settles}
-use Rattle.normaliser.specs.Normals.{Writable, normalText, writtenOf}
+use Rattle.told.specs.Reads.{toldBy, toldOf, readOf}
+use Rattle.told.specs.declared.Answer.the-variants as R
+use Rattle.told.specs.declared.Told.{Told}
+use Rattle.classes.specs.Claims.{clashing}
+use Rattle.classes.specs.declared.Contradiction.the-variants.{First, Clear}
+use Rattle.ruling.specs.Claims.{rowsIn, saidIn, contextIn, ClosesText}
+use Rattle.ruling.specs.declared.Closed.{Closed}
+use Rattle.ruling.proofs.Saying.{part-long, rows-inside, said-inside, told-context, told-fit}
+use Rattle.ruling.proofs.Ruling.{closed-low}
+use Rattle.normaliser.specs.Claims.{writtenBy, WritesNormal}
+use Rattle.normaliser.specs.Normals.{normalText, Writable}
 use Rattle.normaliser.specs.declared.Written.{Written}
 use Rattle.normaliser.specs.declared.Written.the-variants.{Wrote, Refused}
-use Rattle.normaliser.specs.declared.normal.Answer.{Answer as Wrote′}
-use Rattle.normaliser.specs.declared.normal.Answer.the-variants as Variant
-use Rattle.normaliser.proofs.Fitting.{fit-writable}
 
--- ---- the parts
+module _ (text : List ℕ) (r : Closed) (h : ClosesText text r) where
+  abbrev t : Told
+  t = r .told
 
-pub write-writable : (c : ContextColumns) (t : List ℕ) → Represented c t → Writable (c .counts) (c .args) (c .rows) (c .lefts) (c .rights) (c .statements) t
-write-writable c t h =
-    fit-writable (c .symbols) (c .counts) (c .args) (c .rows) (c .kinds) (c .lefts) (c .rights) (c .statements) t (h .promise) (h .held .fit .rows-few) (h .held .fit .statements-few) (h .held .long) (h .held .fit .counts-few) (h .held .fit .fit)
+  fit : FitContext mostRows mostStatements (rowsIn t) (saidIn t)
+  fit = told-fit text t (h .told)
 
-pub write-leaves : (c : ContextColumns) (t lent after : List ℕ) (r : Wrote′)
-    → Leaves lent (normal (normalText (c .symbols) (c .counts) (c .args) (c .rows) (c .kinds) (c .lefts) (c .rights) (c .statements) t)) (writtenOf r) after
-    → Leaves lent (normal (textBy c t)) (writtenOf r) after
-unfolding normalText
-write-leaves c t lent after r w = w
+  -- ---- refused
 
--- ---- the ways out below the reader
+  told-same : (x : Refusal) → t .answer ≡ R.Refused x → (y : M.Reading) → read narrow text ≡ y → x .number ∷ x .line ∷ x .offset ∷ [] ≡ toldOf y
+  told-same x e y q = sym (ap toldBy e) ∙ h .told .told ∙ ap toldOf q
 
-module _ (c : ContextColumns) (held : Held c) (z : Classes) (closed : ClosedIn c z) (r : Contradiction)
-    (clash : clashing r ≡ clashOf (repAt (z .table)) (differences (said c))) where
-  abbrev t : List ℕ
-  t = z .table
-
-  promise : Promise (said c) 255 t
-  promise = classes-promise c held z closed
-
-  pub settle-represented : Represented c (z .table)
-  settle-represented = record { held = held; promise = promise }
-
-  pub clash-fits : (n : ℕ) → r ≡ First n → Fits w16 (n + 1)
-  clash-fits n e = omega (arith, clash-high c held t r clash n e)
-
-  pub settle-clash : (lent : List ℕ) (n : ℕ) → r ≡ First n → Settles c lent (Refused (record { number = 9; line = n + 1; offset = 0 })) lent
-  settle-clash lent n e =
-      record {
-        result = abnormal (refusal 9 (suc n));
-        settled = contradicts n (clash-first (said c) (held .fit .fit) (repAt t) (promise .rows) n (sym clash ∙ ap clashing e));
-        leaves = rw (add-one n) (stays (refusal 9 (suc n)));
-      }
-
-  settled-text : r ≡ Clear → Settled (said c) (normal (textBy c t))
-  settled-text e = settles-by (said c) (held .fit .fit) (repAt t) (promise .rows) (sym clash ∙ ap clashing e)
-
-  module _ (lent after : List ℕ) (w : Wrote′) (clearly : r ≡ Clear) (leaves : Leaves lent (normal (textBy c t)) (writtenOf w) after) where
-    pub settle-wrote : (n : ℕ) → w ≡ Variant.Wrote n → Settles c lent (Wrote n) after
-    settle-wrote n e = record { result = normal (textBy c t); settled = settled-text clearly; leaves = rw e at leaves }
-
-    pub settle-short : w ≡ Variant.Short → Settles c lent (Refused (record { number = 10; line = 0; offset = 0 })) after
-    settle-short e = record { result = normal (textBy c t); settled = settled-text clearly; leaves = rw e at leaves }
-
--- ---- and above it
-
-pub normalise-refused : (text lent : List ℕ) (r : Reading) (x : Refusal) → Reads text r → r .answer ≡ R.Refused x → Writes narrow text lent (writtenBy (Refused x)) lent
-normalise-refused text lent r x w e = go (read narrow text) refl (rw e at (w .told))
-  where
-    go : (y : M.Reading) → read narrow text ≡ y → toldBy (R.Refused x) ≡ toldOf (read narrow text) → Writes narrow text lent (writtenBy (Refused x)) lent
-    go (faulty f) q h =
-        let v : x .number ∷ x .line ∷ x .offset ∷ [] ≡ f .number ∷ f .place ∷ f .offset ∷ [] = rw q at h in
-        let n : x .number ≡ f .number = cc in
-        let p : x .line ≡ f .place = cc in
-        let o : x .offset ≡ f .offset = cc in
-        record { result = abnormal f; normalises = subst (λ (z : M.Reading). NormalisesTo z (abnormal f)) (sym q) refl; leaves = rw (n, p, o) (stays f) }
-    go (taken s) q h = absurd (let v : x .number ∷ x .line ∷ x .offset ∷ [] ≡ [] = rw q at h in let z : _≡_ {A = ℕ} 0 1 = cc in omega arith)
-
-module _ (text : List ℕ) (r : Reading) (reads : Reads text r) (whole : r .answer ≡ R.Taken) where
-  taken-read : (s : Read) × (read narrow text ≡ taken s)
-  taken-read = go (read narrow text) refl
+  pub normalise-refused : (lent : List ℕ) (x : Refusal) → t .answer ≡ R.Refused x → Writes narrow text lent (writtenBy (Refused x)) lent
+  normalise-refused lent x e = go (read narrow text) refl
     where
-      go : (y : M.Reading) → read narrow text ≡ y → (s : Read) × (read narrow text ≡ taken s)
-      go (taken s) q = (s, q)
-      go (faulty f) q = absurd (let v : [] ≡ f .number ∷ f .place ∷ f .offset ∷ [] = rw (whole, q) at (reads .told) in let z : _≡_ {A = ℕ} 0 1 = cc in omega arith)
+      go : (y : M.Reading) → read narrow text ≡ y → Writes narrow text lent (writtenBy (Refused x)) lent
+      go (faulty f) q =
+          let v : x .number ∷ x .line ∷ x .offset ∷ [] ≡ f .number ∷ f .place ∷ f .offset ∷ [] = told-same x e (faulty f) q in
+          let n : x .number ≡ f .number = cc in
+          let p : x .line ≡ f .place = cc in
+          let o : x .offset ≡ f .offset = cc in
+          record { result = abnormal f; normalises = subst (λ (z : M.Reading). NormalisesTo z (abnormal f)) (sym q) refl; leaves = rw (n, p, o) (stays f) }
+      go (taken s) q =
+          absurd (let v : x .number ∷ x .line ∷ x .offset ∷ [] ≡ [] = told-same x e (taken s) q in let z : _≡_ {A = ℕ} 0 1 = cc in omega arith)
 
-  taken-columns : r .context ≡ contextColumns (taken-read .0 .ledger)
-  taken-columns = reads .context ∙ ap contextOf (taken-read .1)
+  -- ---- taken
 
-  pub normalise-held : Held (r .context)
-  normalise-held = rw taken-columns (read-held text (taken-read .0) (taken-read .1))
+  pub clash-fits : (n : ℕ) → r .clash ≡ First n → Fits w64 (n + 1)
+  clash-fits n e = omega (arith, closed-low text r h .low n e)
 
-  pub normalise-settled : (lent after : List ℕ) (w : Written) → Settles (r .context) lent w after → Writes narrow text lent (writtenBy w) after
-  normalise-settled lent after w s =
-      let q : said (r .context) ≡ taken-read .0 .ledger .context = ap said taken-columns ∙ read-said text (taken-read .0) (taken-read .1) in
+  pub clash-short : (n : ℕ) → r .clash ≡ First n → Fits w16 (n + 1)
+  clash-short n e = omega (arith, closed-low text r h .low n e)
+
+  pub normalise-rows : t .filled .rows ≤ length (t .rows)
+  normalise-rows = rows-inside text t (h .told)
+
+  pub normalise-said : t .filled .said ≤ length (t .said)
+  normalise-said = said-inside text t (h .told)
+
+  pub normalise-writable : Writable (rowsIn t) (saidIn t) (r .table)
+  normalise-writable =
+      let e = length-rows (rowsIn t) in
       record {
-        result = s .result;
-        normalises =
-            subst (λ (z : M.Reading). NormalisesTo z (s .result)) (sym (taken-read .1)) (subst (λ (z : Context). Settled z (s .result)) q (s .settled));
-        leaves = s .leaves;
+        fit = fit;
+        tabled = record {
+          long = omega (arith, h .closed .long, fit .rows-few);
+          reps = λ i b. omega (arith, h .closed .rows i (omega (arith, e)) .row, e);
+        };
       }
+
+  module _ (whole : t .answer ≡ R.Taken) where
+    -- what is answered to the context that the runs say is answered to the text
+    settled-writes : (lent after : List ℕ) (w : Written) (n : Normalised) → Settled (contextIn t) n → Leaves lent n (writtenBy w) after
+        → Writes narrow text lent (writtenBy w) after
+    settled-writes lent after w n s l = record { result = n; normalises = go (read narrow text) refl; leaves = l }
+      where
+        go : (y : M.Reading) → read narrow text ≡ y → NormalisesTo (read narrow text) n
+        go (taken v) q =
+            let e : contextIn t ≡ v .ledger .context = told-context text t (h .told) ∙ ap (λ (z : M.Reading). readOf z .ledger .context) q in
+            subst (λ (z : M.Reading). NormalisesTo z n) (sym q) (subst (λ (c : Context). Settled c n) e s)
+        go (faulty f) q =
+            absurd (let v : [] ≡ f .number ∷ f .place ∷ f .offset ∷ [] = sym (ap toldBy whole) ∙ h .told .told ∙ ap toldOf q in
+            let z : _≡_ {A = ℕ} 0 1 = cc in omega arith)
+
+    pub normalise-clash : (lent : List ℕ) (n : ℕ) → r .clash ≡ First n
+        → Writes narrow text lent (writtenBy (Refused (record { number = 9; line = n + 1; offset = 0 }))) lent
+    normalise-clash lent n e =
+        settled-writes lent lent (Refused (record { number = 9; line = n + 1; offset = 0 })) (abnormal (refusal 9 (suc n)))
+        (contradicts n (clash-first (contextIn t) (fit .fit) (repAt (r .table)) (h .closed .rows) n (sym (h .clashes) ∙ ap clashing e)))
+        (rw (add-one n) (stays (refusal 9 (suc n))))
+
+    pub normalise-written : (lent after : List ℕ) (w : Written) → r .clash ≡ Clear → WritesNormal (rowsIn t) (saidIn t) (r .table) lent w after
+        → Writes narrow text lent (writtenBy w) after
+    unfolding normalText
+    normalise-written lent after w e l =
+        settled-writes lent after w (normal (normalText (rowsIn t) (saidIn t) (r .table)))
+        (settles-by (contextIn t) (fit .fit) (repAt (r .table)) (h .closed .rows) (sym (h .clashes) ∙ ap clashing e)) l
 
 -- ---- one answer
 
@@ -142,4 +135,15 @@ normalise-one text lent a b r s p q =
     let w : (writtenBy r ≡ writtenBy s) × (a ≡ b) = writes-one narrow text lent (writtenBy r) (writtenBy s) a b p q in
     (written-by-one r s (w .0), w .1)
 
-pub ruleset mine = (needs, settle-represented, write-writable, write-leaves, clash-fits, settle-clash, settle-wrote, settle-short, normalise-refused, normalise-held, normalise-settled)
+pub ruleset mine = (
+  needs,
+  part-long,
+  normalise-refused,
+  clash-fits,
+  clash-short,
+  normalise-clash,
+  normalise-rows,
+  normalise-said,
+  normalise-writable,
+  normalise-written,
+)

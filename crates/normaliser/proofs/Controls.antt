@@ -9,10 +9,11 @@ use native.Mathlib.Omega.{arith}
 use lib.ListN.{length, getD}
 use Rattle.meaning.specs.Context.{Row, Context, same, differ, differencesOf, equationsOf}
 use Rattle.meaning.specs.Equality.{Representatives, given, reflexive, symmetric}
-use Rattle.meaning.specs.Columns.{statementOf, statementsFrom, rowsFrom, contextFrom}
+use Rattle.meaning.specs.Columns.{statementOf}
 use Rattle.meaning.specs.Writing.{digitOf, hex, frame, rowsText, statementsText, contextText, joins, sooner, insert, sorted, normalOf}
 use Rattle.meaning.specs.Text.{Refusal}
 use Rattle.meaning.specs.Replies.{breach, none, refused, refusal, printed, codeOf, valuesOf, Normal, Normalised, Leaves, fits, short, stays, normal, Written, wrote, unwritten}
+use Rattle.runs.specs.Runs.{each, rowsOf, statementsOf}
 use Rattle.normaliser.specs.Normals.{normalText}
 
 -- ---- printed lines
@@ -65,24 +66,28 @@ some-empty = fits [] (omega arith)
 abbrev constants : List Row
 constants = record { symbol = 0; args = [] } ∷ record { symbol = 1; args = [] } ∷ record { symbol = 2; args = [] } ∷ []
 
--- the normal text of some statements about them, by a table
-abbrev written : List ℕ → List ℕ → List ℕ → List ℕ → ℕ → List ℕ
-written table kinds lefts rights m = normalText (0 ∷ 1 ∷ 2 ∷ []) (0 ∷ 0 ∷ 0 ∷ []) [] 3 kinds lefts rights m table
+-- the same as a run, six numbers a row
+abbrev rows : List ℕ
+rows = (0 ∷ 0 ∷ 0 ∷ 0 ∷ 0 ∷ 0 ∷ []) ++ (1 ∷ 0 ∷ 0 ∷ 0 ∷ 0 ∷ 0 ∷ []) ++ (2 ∷ 0 ∷ 0 ∷ 0 ∷ 0 ∷ 0 ∷ [])
 
-pub some-sorted : written (0 ∷ 1 ∷ 2 ∷ []) (3 ∷ 3 ∷ []) (2 ∷ 0 ∷ []) (1 ∷ 1 ∷ []) 2 ≡ rowsText constants ++ statementsText (differ 0 1 ∷ differ 1 2 ∷ [])
-unfolding normalText contextText normalOf contextFrom rowsFrom statementsFrom statementOf differencesOf joins sorted insert sooner
+-- the normal text of some statements about them, by a table
+abbrev written : List ℕ → List ℕ → List ℕ
+written table said = normalText rows said table
+
+pub some-sorted : written (0 ∷ 1 ∷ 2 ∷ []) (3 ∷ 2 ∷ 1 ∷ 3 ∷ 0 ∷ 1 ∷ []) ≡ rowsText constants ++ statementsText (differ 0 1 ∷ differ 1 2 ∷ [])
+unfolding normalText contextText normalOf each rowsOf statementsOf statementOf differencesOf joins sorted insert sooner
 some-sorted = refl
 
-pub no-unsorted : written (0 ∷ 1 ∷ 2 ∷ []) (3 ∷ 3 ∷ []) (2 ∷ 0 ∷ []) (1 ∷ 1 ∷ []) 2 ≡ rowsText constants ++ statementsText (differ 1 2 ∷ differ 0 1 ∷ []) → ⊥
-unfolding normalText contextText normalOf contextFrom rowsFrom statementsFrom statementOf differencesOf joins sorted insert sooner rowsText statementsText frame hex digitOf
+pub no-unsorted : written (0 ∷ 1 ∷ 2 ∷ []) (3 ∷ 2 ∷ 1 ∷ 3 ∷ 0 ∷ 1 ∷ []) ≡ rowsText constants ++ statementsText (differ 1 2 ∷ differ 0 1 ∷ []) → ⊥
+unfolding normalText contextText normalOf each rowsOf statementsOf statementOf differencesOf joins sorted insert sooner rowsText statementsText frame hex digitOf
 no-unsorted e = let z : _≡_ {A = ℕ} 48 49 = ap (λ (l : List ℕ). getD l 30 0) e in omega arith
 
-pub no-repeat : written (0 ∷ 1 ∷ 2 ∷ []) (3 ∷ 3 ∷ []) (0 ∷ 1 ∷ []) (1 ∷ 0 ∷ []) 2 ≡ rowsText constants ++ statementsText (differ 0 1 ∷ differ 0 1 ∷ []) → ⊥
-unfolding normalText contextText normalOf contextFrom rowsFrom statementsFrom statementOf differencesOf joins sorted insert sooner rowsText statementsText frame hex digitOf
+pub no-repeat : written (0 ∷ 1 ∷ 2 ∷ []) (3 ∷ 0 ∷ 1 ∷ 3 ∷ 1 ∷ 0 ∷ []) ≡ rowsText constants ++ statementsText (differ 0 1 ∷ differ 0 1 ∷ []) → ⊥
+unfolding normalText contextText normalOf each rowsOf statementsOf statementOf differencesOf joins sorted insert sooner rowsText statementsText frame hex digitOf
 no-repeat e = let z : _≡_ {A = ℕ} 34 41 = ap length e in omega arith
 
-pub no-swapped-sides : written (0 ∷ 0 ∷ 2 ∷ []) (2 ∷ []) (0 ∷ []) (1 ∷ []) 1 ≡ rowsText constants ++ statementsText (same 1 0 ∷ []) → ⊥
-unfolding normalText contextText normalOf contextFrom rowsFrom statementsFrom statementOf differencesOf joins sorted insert sooner rowsText statementsText frame hex digitOf
+pub no-swapped-sides : written (0 ∷ 0 ∷ 2 ∷ []) (2 ∷ 0 ∷ 1 ∷ []) ≡ rowsText constants ++ statementsText (same 1 0 ∷ []) → ⊥
+unfolding normalText contextText normalOf each rowsOf statementsOf statementOf differencesOf joins sorted insert sooner rowsText statementsText frame hex digitOf
 no-swapped-sides e = let z : _≡_ {A = ℕ} 48 49 = ap (λ (l : List ℕ). getD l 30 0) e in omega arith
 
 -- ---- representatives: rows 0 and 1 are equal, and the higher one does not stand for them

@@ -9,4 +9,3 @@ pub mod Texts
 pub mod Whole
 pub mod Composed
 pub mod Controls
-pub mod Fitting

@@ -1,128 +1,163 @@
 -- The line of a row from its fields, and how long lines are.
 --     row-line, length-row      the first fields of a row make its line
+--     Sizing                    the size of the pieces before a piece
 --     mine                      what the functions that write rows leave to show
 -- Assumes nothing.
 use mathlib.Core.List.{List, [], _∷_, _++_}
 use mathlib.Core.Path.{_≡_, refl, sym, ap, _∙_, subst}
 use Prim.Native.Nat.{ℕ, zero, suc, _+_, _*_, _/_, _%_, _≤_, _<_}
-use native.Mathlib.Nat.{add-zero, mod-eq-of-lt}
+use native.Mathlib.Nat.{mod-eq-of-lt}
 use native.Mathlib.Numerals.{add-one}
 use native.Mathlib.Omega.{arith}
+use mir.Syntax.{w64}
+use mir.Val.{Fits}
 use borrow.Author.Needs.{needs}
-use lib.ListN.{length, getD, take, drop, length-append, length-drop}
-use lib.Seq.{drop-cons, length-take-le}
-use Rattle.meaning.specs.Columns.{argsAt}
+use lib.ListN.{length, take, drop, length-append}
+use lib.Seq.{drop-cons}
 use Rattle.meaning.specs.Writing.{frame}
+use Rattle.runs.specs.Limits.{mostRows, rowSize, argPlaces}
+use Rattle.runs.specs.Runs.{rowCount, symbolIn, countIn, argIn}
+use Rattle.runs.specs.Fit.{RowAt}
+use Rattle.runs.proofs.Saying.{row-length}
 use Rattle.reply_lines.specs.Pieces.{low8, Room, Put, LineRoom, run}
-use Rattle.normaliser.specs.Pieces.{rowPiece}
-use Rattle.normaliser.specs.Rooms.{rowFields, rowsSize, RowsFit, RowRoom}
+use Rattle.normaliser.specs.Pieces.{rowPiece, rowLines}
+use Rattle.normaliser.specs.Rooms.{rowFields, lineLength, rowLength, rowsSize, RowsFit, RowRoom}
 use Rattle.reply_lines.proofs.Lines.{length-frame}
 use Rattle.reply_lines.proofs.Running.{Running, running-start, running-room, running-step, running-done, run-snoc}
 
-module _ (counts args : List ℕ) (n : ℕ) (fit : RowsFit counts args n) (i : ℕ) (h : i < n) where
-  four-args : drop (i * 4) args ≡ getD args (i * 4) 0 ∷ getD args (i * 4 + 1) 0 ∷ getD args (i * 4 + 2) 0 ∷ getD args (i * 4 + 3) 0 ∷ drop (i * 4 + 4) args
-  four-args =
-      let e₁ : suc (i * 4) ≡ i * 4 + 1 = omega arith in
-      let e₂ : suc (i * 4 + 1) ≡ i * 4 + 2 = omega arith in
-      let e₃ : suc (i * 4 + 2) ≡ i * 4 + 3 = omega arith in
-      let e₄ : suc (i * 4 + 3) ≡ i * 4 + 4 = omega arith in
-      drop-cons args (i * 4) 0 (omega (arith, fit .few, fit .long))
-      ∙ ap (λ (l : List ℕ). getD args (i * 4) 0 ∷ l)
-      (ap (λ (k : ℕ). drop k args) e₁ ∙ drop-cons args (i * 4 + 1) 0 (omega (arith, fit .few, fit .long))
-      ∙ ap (λ (l : List ℕ). getD args (i * 4 + 1) 0 ∷ l)
-      (ap (λ (k : ℕ). drop k args) e₂ ∙ drop-cons args (i * 4 + 2) 0 (omega (arith, fit .few, fit .long))
-      ∙ ap (λ (l : List ℕ). getD args (i * 4 + 2) 0 ∷ l)
-      (ap (λ (k : ℕ). drop k args) e₃ ∙ drop-cons args (i * 4 + 3) 0 (omega (arith, fit .few, fit .long))
-      ∙ ap (λ (k : ℕ). getD args (i * 4 + 3) 0 ∷ drop k args) e₄)))
+module _ (rows : List ℕ) (fit : RowsFit rows) (i : ℕ) (h : i < rowCount rows) where
+  placed : RowAt rows i
+  placed = fit .placed .each i h
 
-  pub args-length : length (argsAt counts args i) ≡ getD counts i 0
-  args-length = length-take-le (getD counts i 0) (drop (i * 4) args) (omega (arith, fit .few, fit .long, fit .count i h, length-drop (i * 4) args))
+  four-args : take argPlaces (drop (i * rowSize + 2) rows) ≡ argIn rows i 0 ∷ argIn rows i 1 ∷ argIn rows i 2 ∷ argIn rows i 3 ∷ []
+  four-args =
+      let e₀ : i * rowSize + 2 ≡ i * rowSize + 2 + 0 = omega arith in
+      let e₁ : suc (i * rowSize + 2 + 0) ≡ i * rowSize + 2 + 1 = omega arith in
+      let e₂ : suc (i * rowSize + 2 + 1) ≡ i * rowSize + 2 + 2 = omega arith in
+      let e₃ : suc (i * rowSize + 2 + 2) ≡ i * rowSize + 2 + 3 = omega arith in
+      ap (λ (k : ℕ). take argPlaces (drop k rows)) e₀
+      ∙ ap (take argPlaces) (cut 0 (omega arith) ∙ ap (λ (l : List ℕ). argIn rows i 0 ∷ l)
+      (ap (λ (k : ℕ). drop k rows) e₁ ∙ cut 1 (omega arith) ∙ ap (λ (l : List ℕ). argIn rows i 1 ∷ l)
+      (ap (λ (k : ℕ). drop k rows) e₂ ∙ cut 2 (omega arith) ∙ ap (λ (l : List ℕ). argIn rows i 2 ∷ l)
+      (ap (λ (k : ℕ). drop k rows) e₃ ∙ cut 3 (omega arith)))))
+    where
+      cut : (k : ℕ) → k < argPlaces → drop (i * rowSize + 2 + k) rows ≡ argIn rows i k ∷ drop (suc (i * rowSize + 2 + k)) rows
+      cut k l = drop-cons rows (i * rowSize + 2 + k) 0 (omega arith)
 
   -- an argument that is used is a byte
-  used : (k : ℕ) → k < getD counts i 0 → low8 (getD args (i * 4 + k) 0) ≡ getD args (i * 4 + k) 0
-  used k l = mod-eq-of-lt (omega (arith, fit .arg i k h l, fit .few))
+  used : (k : ℕ) → k < countIn rows i → low8 (argIn rows i k) ≡ argIn rows i k
+  used k l = mod-eq-of-lt (omega (arith, placed .earlier .each k l, fit .few))
 
-  first-used : 0 < getD counts i 0 → low8 (getD args (i * 4) 0) ≡ getD args (i * 4) 0
-  first-used l = mod-eq-of-lt (omega (arith, fit .arg i 0 h l, fit .few, ap (λ (k : ℕ). getD args k 0) (add-zero (i * 4))))
+  bytes : (m : ℕ) → m ≡ countIn rows i
+      → take m (low8 (argIn rows i 0) ∷ low8 (argIn rows i 1) ∷ low8 (argIn rows i 2) ∷ low8 (argIn rows i 3) ∷ [])
+      ≡ take m (argIn rows i 0 ∷ argIn rows i 1 ∷ argIn rows i 2 ∷ argIn rows i 3 ∷ [])
+  bytes zero e = refl
+  bytes (suc zero) e = rw (used 0 (omega arith))
+  bytes (suc (suc zero)) e = rw (used 0 (omega arith), used 1 (omega arith))
+  bytes (suc (suc (suc zero))) e = rw (used 0 (omega arith), used 1 (omega arith), used 2 (omega arith))
+  bytes (suc (suc (suc (suc zero)))) e = rw (used 0 (omega arith), used 1 (omega arith), used 2 (omega arith), used 3 (omega arith))
+  bytes (suc (suc (suc (suc (suc m))))) e = absurd (omega (arith, placed .few))
 
-  bytes : (m : ℕ) → m ≡ getD counts i 0 → (r : List ℕ)
-      → take m (low8 (getD args (i * 4) 0) ∷ low8 (getD args (i * 4 + 1) 0) ∷ low8 (getD args (i * 4 + 2) 0) ∷ low8 (getD args (i * 4 + 3) 0) ∷ [])
-      ≡ take m (getD args (i * 4) 0 ∷ getD args (i * 4 + 1) 0 ∷ getD args (i * 4 + 2) 0 ∷ getD args (i * 4 + 3) 0 ∷ r)
-  bytes zero e r = refl
-  bytes (suc zero) e r = rw (first-used (omega arith))
-  bytes (suc (suc zero)) e r = rw (first-used (omega arith), used 1 (omega arith))
-  bytes (suc (suc (suc zero))) e r = rw (first-used (omega arith), used 1 (omega arith), used 2 (omega arith))
-  bytes (suc (suc (suc (suc zero)))) e r = rw (first-used (omega arith), used 1 (omega arith), used 2 (omega arith), used 3 (omega arith))
-  bytes (suc (suc (suc (suc (suc m))))) e r = absurd (omega (arith, fit .count i h))
+  count-byte : low8 (countIn rows i) ≡ countIn rows i
+  count-byte = mod-eq-of-lt (omega (arith, placed .few))
 
-  pub row-line : (symbols : List ℕ) → frame (take (4 + getD counts i 0) (rowFields symbols counts args i)) ≡ rowPiece symbols counts args i
+  pub row-line : frame (take (4 + countIn rows i) (rowFields rows i)) ≡ rowPiece rows i
   unfolding rowPiece
-  row-line symbols =
-      let e : 4 + getD counts i 0 ≡ suc (suc (suc (suc (getD counts i 0)))) = omega arith in
-      rw e
-      (ap (λ (l : List ℕ). frame (1 ∷ getD symbols i 0 / 256 ∷ getD symbols i 0 % 256 ∷ getD counts i 0 ∷ l))
-      (bytes (getD counts i 0) refl (drop (i * 4 + 4) args) ∙ ap (take (getD counts i 0)) (sym four-args)))
+  row-line =
+      let e : 4 + countIn rows i ≡ suc (suc (suc (suc (countIn rows i)))) = omega arith in
+      rw (e, count-byte)
+      (ap (λ (l : List ℕ). frame (1 ∷ symbolIn rows i / 256 ∷ symbolIn rows i % 256 ∷ countIn rows i ∷ l))
+      (bytes (countIn rows i) refl ∙ ap (take (countIn rows i)) (sym four-args)))
 
-  pub length-row : (symbols : List ℕ) → length (rowPiece symbols counts args i) ≡ 9 + getD counts i 0 * 2
+  pub length-row : length (rowPiece rows i) ≡ lineLength (4 + countIn rows i)
   unfolding rowPiece
-  length-row symbols = length-frame _ ∙ omega (arith, args-length)
+  length-row = length-frame _ ∙ omega (arith, row-length rows i h (placed .few))
 
-  pub row-put : (symbols fields lent after : List ℕ) (at x next : ℕ) → x ≡ getD counts i 0 → fields ≡ rowFields symbols counts args i
-      → Put lent at (frame (take (4 + x) fields)) next after → Put lent at (rowPiece symbols counts args i) next after
-  row-put symbols fields lent after at x next e f d =
-      subst (λ (l : List ℕ). Put lent at l next after) line d
-    where
-      line : frame (take (4 + x) fields) ≡ rowPiece symbols counts args i
-      line =
-          ap (λ (l : List ℕ). frame (take (4 + x) l)) f ∙ ap (λ (k : ℕ). frame (take (4 + k) (rowFields symbols counts args i))) e ∙ row-line symbols
+pub row-put : {rows fields lent after : List ℕ} {i at x next : ℕ} → RowRoom rows i lent at → x ≡ countIn rows i → fields ≡ rowFields rows i
+    → Put lent at (frame (take (4 + x) fields)) next after → Put lent at (rowPiece rows i) next after
+row-put {rows} {fields} {lent} {after} {i} {at} {x} {next} r e f d =
+    subst (λ (l : List ℕ). Put lent at l next after)
+    (ap (λ (l : List ℕ). frame (take (4 + x) l)) f ∙ ap (λ (k : ℕ). frame (take (4 + k) (rowFields rows i))) e ∙ row-line rows (r .fit) i (r .inside)) d
 
-pub row-room : {symbols counts args lent : List ℕ} {n i at x : ℕ} → RowRoom symbols counts args n i lent at → x ≡ getD counts i 0 → LineRoom (4 + x) at lent
-row-room {symbols} {counts} {args} {lent} {n} {i} r e =
-    record { few = omega (arith, r .fit .count i (r .inside)); room = omega (arith, r .room .fits, length-row counts args n (r .fit) i (r .inside) symbols) }
+pub row-room : {rows lent : List ℕ} {i at x : ℕ} → RowRoom rows i lent at → x ≡ countIn rows i → LineRoom (4 + x) at lent
+row-room {rows} {lent} {i} r e =
+    record {
+      few = omega (arith, r .fit .placed .each i (r .inside) .few);
+      room = omega (arith, r .room .fits, length-row rows (r .fit) i (r .inside));
+    }
+
+pub row-inside : {rows lent : List ℕ} {i at : ℕ} → RowRoom rows i lent at → i < rowCount rows
+row-inside r = r .inside
+
+pub row-fits : {rows lent : List ℕ} {i at x : ℕ} → RowRoom rows i lent at → x ≡ countIn rows i → Fits w64 (4 + x)
+row-fits {rows} {lent} {i} r e = omega (arith, r .fit .placed .each i (r .inside) .few)
 
 -- there is room for the row that comes next
-pub rows-room : {symbols counts args : List ℕ} {n : ℕ} {lent : List ℕ} {at i to : ℕ} {after : List ℕ} → RowsFit counts args n
-    → Room lent at (run (rowPiece symbols counts args) 0 n) → Running (rowPiece symbols counts args) n lent at i to after → i < n
-    → RowRoom symbols counts args n i after to
-rows-room fit r f h = record { fit = fit; inside = h; room = running-room r f h }
+pub rows-room : {rows lent : List ℕ} {n at i to : ℕ} {after : List ℕ} → RowsFit rows → Room lent at (rowLines rows) → n ≡ rowCount rows
+    → Running (rowPiece rows) n lent at i to after → i < n → RowRoom rows i after to
+rows-room {rows} {lent} {n} {at} {i} {to} {after} fit r e f h =
+    let f′ : Running (rowPiece rows) (rowCount rows) lent at i to after = rw e at f in
+    record { fit = fit; inside = omega arith; room = running-room r f′ (omega arith) }
 
--- the size of the pieces before piece i, each of which has 521 bytes at most
-pub record Sizing (size : ℕ → ℕ) (n i sum : ℕ) : Type 0 where
+pub rows-done : (rows : List ℕ) {lent : List ℕ} {n at i to : ℕ} {after : List ℕ} → n ≡ rowCount rows → Running (rowPiece rows) n lent at i to after → n ≤ i
+    → Put lent at (rowLines rows) to after
+rows-done rows {lent} {n} {at} {i} {to} {after} e f h = subst (λ (m : ℕ). Put lent at (run (rowPiece rows) 0 m) to after) e (running-done f h)
+
+-- the size of the pieces before piece i, each of which has so many bytes at most
+pub record Sizing (size : ℕ → ℕ) (most n i sum : ℕ) : Type 0 where
   pub within : i ≤ n
   pub so : sum ≡ size i
-  pub small : sum ≤ i * 521
+  pub small : sum ≤ i * most
 
-pub sizing-rows-start : (counts : List ℕ) (n : ℕ) → Sizing (rowsSize counts) n 0 0
-unfolding rowsSize
-sizing-rows-start counts n = record { within = omega arith; so = refl; small = omega arith }
+module _ (rows : List ℕ) where
+  pub sizing-rows-start : (n : ℕ) → Sizing (rowsSize rows) rowLength n 0 0
+  unfolding rowsSize
+  sizing-rows-start n = record { within = omega arith; so = refl; small = omega arith }
 
-pub sizing-rows-step : (counts : List ℕ) {n i sum x : ℕ} → Sizing (rowsSize counts) n i sum → i < n → x ≡ getD counts i 0 → x < 256
-    → Sizing (rowsSize counts) n (i + 1) (sum + (9 + x * 2))
-unfolding rowsSize
-sizing-rows-step counts {n} {i} {sum} {x} s h e l = record { within = omega arith; so = rw (add-one i, s .so, e); small = omega (arith, s .small) }
+  module _ {n i sum : ℕ} (e : n ≡ rowCount rows) (s : Sizing (rowsSize rows) rowLength n i sum) where
+    pub sizing-rows-inside : i < n → i < rowCount rows
+    sizing-rows-inside h = omega arith
 
-pub sizing-rows-done : (counts : List ℕ) {n i sum : ℕ} → Sizing (rowsSize counts) n i sum → n ≤ i → sum ≡ rowsSize counts n
-sizing-rows-done counts {n} {i} {sum} s h = let e : i ≡ n = omega (arith, s .within) in s .so ∙ ap (rowsSize counts) e
+    pub sizing-rows-placed : RowsFit rows → i < n → RowAt rows i
+    sizing-rows-placed fit h = fit .placed .each i (sizing-rows-inside h)
+
+    pub sizing-rows-small : RowsFit rows → sum ≤ mostRows * rowLength
+    sizing-rows-small fit = omega (arith, s .small, s .within, fit .few)
+
+    pub sizing-rows-step : {x : ℕ} → i < n → x ≡ lineLength (4 + countIn rows i) → x ≤ rowLength
+        → Sizing (rowsSize rows) rowLength n (i + 1) (sum + x)
+    unfolding rowsSize
+    sizing-rows-step {x} h f l = record { within = omega arith; so = rw (add-one i, s .so, f); small = omega (arith, s .small) }
+
+    pub sizing-rows-done : n ≤ i → sum ≡ rowsSize rows (rowCount rows)
+    sizing-rows-done h =
+        let d : i ≡ rowCount rows = omega (arith, s .within) in
+        s .so ∙ ap (rowsSize rows) d
 
 -- the rows together
-pub length-rows : (symbols counts args : List ℕ) (n m : ℕ) → RowsFit counts args n → m ≤ n → length (run (rowPiece symbols counts args) 0 m) ≡ rowsSize counts m
+pub length-rows : (rows : List ℕ) (m : ℕ) → RowsFit rows → m ≤ rowCount rows → length (run (rowPiece rows) 0 m) ≡ rowsSize rows m
 unfolding run rowsSize
-length-rows symbols counts args n zero fit h = refl
-length-rows symbols counts args n (suc m) fit h =
+length-rows rows zero fit h = refl
+length-rows rows (suc m) fit h =
     let e : 0 + m ≡ m = omega arith in
-    ap length (run-snoc (rowPiece symbols counts args) 0 m ∙ ap (λ (k : ℕ). run (rowPiece symbols counts args) 0 m ++ rowPiece symbols counts args k) e)
-    ∙ length-append (run (rowPiece symbols counts args) 0 m) (rowPiece symbols counts args m)
-    ∙ omega (arith, length-rows symbols counts args n m fit (omega arith), length-row counts args n fit m (omega arith) symbols)
+    ap length (run-snoc (rowPiece rows) 0 m ∙ ap (λ (k : ℕ). run (rowPiece rows) 0 m ++ rowPiece rows k) e)
+    ∙ length-append (run (rowPiece rows) 0 m) (rowPiece rows m)
+    ∙ omega (arith, length-rows rows m fit (omega arith), length-row rows fit m (omega arith))
 
 pub ruleset mine = (
   needs,
   row-room,
+  row-inside,
+  row-fits,
   row-put,
   running-start,
-  rows-room,
   running-step,
-  running-done,
+  rows-room,
+  rows-done,
   sizing-rows-start,
+  sizing-rows-inside,
+  sizing-rows-placed,
+  sizing-rows-small,
   sizing-rows-step,
   sizing-rows-done,
 )

@@ -1,4 +1,4 @@
--- The normal text of columns is its pieces one after the other.
+-- The normal text of runs is its pieces one after the other.
 --     keys-sorted    keys in rising order, read back as pairs, are the definition's sorted pairs
 --     text-pieces    the normal text is the rows' lines, the equations' lines and the differences' lines
 --     length-text    how long it is
@@ -7,30 +7,35 @@ use mathlib.Core.Bool.{Bool, true, false}
 use mathlib.Core.List.{List, [], _∷_, _++_, map, map-append, append-assoc, append-nil}
 use mathlib.Core.Logic.{_⊎_, inl, inr, ⊎-elim}
 use mathlib.Core.Path.{_≡_, refl, sym, ap, ap₂, _∙_, subst}
-use Prim.Native.Nat.{ℕ, zero, suc, _+_, _*_, _/_, _%_, _≤_, _<_, max}
+use Prim.Native.Nat.{ℕ, zero, suc, _+_, _/_, _%_, _≤_, _<_}
+use native.Mathlib.Nat.{mod-eq-of-lt}
 use native.Mathlib.Omega.{arith}
 use borrow.Author.Tests.{ltb-true, ltb-false}
 use lib.Dec.{eqb, ltb}
 use lib.ListN.{length, getD, take, length-append}
-use lib.Seq.{take-suc}
+use lib.Seq.{take-suc, take-length}
 use Rattle.meaning.specs.Context.{Row, Statement, same, differ, differencesOf}
 use Rattle.meaning.specs.Equality.{repAt}
-use Rattle.meaning.specs.Columns.{argsAt, rowFrom, rowsFrom, statementOf, statementsFrom, contextFrom}
+use Rattle.meaning.specs.Columns.{statementOf}
 use Rattle.meaning.specs.Writing.{frame, rowsText, statementsText, contextText, joins, sorted, lowerFirst, normalOf}
 use Rattle.meaning.specs.Members.{In}
-use Rattle.meaning.proofs.Built.{length-rows as rows-long}
-use Rattle.meaning.proofs.Sorted.{in-map, map-in, Sooner, Ascending, in-sorted, sorted-in, sorted-ascending, ascending-one}
+use Rattle.meaning.proofs.Taken.{differences-append}
+use Rattle.meaning.proofs.Sorted.{in-at, in-map, map-in, Sooner, Ascending, in-sorted, sorted-in, sorted-ascending, ascending-one}
+use Rattle.runs.specs.Limits.{mostRows, mostStatements}
+use Rattle.runs.specs.Runs.{each, rowCount, saidCount, symbolIn, argsIn, kindIn, leftIn, rightIn, rowIn, rowsOf, statementIn, statementsOf}
+use Rattle.runs.specs.Fit.{Every, NamedAt}
+use Rattle.runs.proofs.Saying.{row-length, length-rows as rows-long}
+use Rattle.runs.proofs.Formed.{fit-rows, fit-said}
 use Rattle.reply_lines.specs.Pieces.{run}
-use Rattle.normaliser.specs.Pieces.{rowPiece, joinPiece, keyPiece}
-use Rattle.normaliser.specs.Rooms.{RowsFit, rowsSize, joinsSize}
+use Rattle.normaliser.specs.Pieces.{rowPiece, joinPiece, keyPiece, rowLines, joinLines, keyLines}
+use Rattle.normaliser.specs.Rooms.{RowsFit}
 use Rattle.normaliser.specs.Sorting.{Rising, Sorts}
-use Rattle.normaliser.specs.Keyed.{pairKey, keysOf, StatementsFit, KeysIn}
-use Rattle.normaliser.specs.Normals.{normalText, textOf, Writable}
+use Rattle.normaliser.specs.Keyed.{keyBase, pairKey, keysTo, KeysIn}
+use Rattle.normaliser.specs.Normals.{normalText, textOf, textSize, Writable}
 use Rattle.normaliser.proofs.Merging.{in-append}
 use Rattle.reply_lines.proofs.Running.{run-snoc}
-use Rattle.normaliser.proofs.Rows.{args-length, length-rows}
+use Rattle.normaliser.proofs.Rows.{length-rows}
 use Rattle.normaliser.proofs.Pairs.{length-joins, length-keys}
-use Rattle.normaliser.proofs.Gathering.{differences-append}
 
 -- ---- the rows
 
@@ -41,21 +46,25 @@ rows-append (r ∷ l) m =
     let line : List ℕ = frame (1 ∷ r .symbol / 256 ∷ r .symbol % 256 ∷ length (r .args) ∷ r .args) in
     ap (λ (t : List ℕ). line ++ t) (rows-append l m) ∙ sym (append-assoc line (rowsText l) (rowsText m))
 
-module _ (symbols counts args : List ℕ) (n : ℕ) (fit : RowsFit counts args n) where
-  row-text : (i : ℕ) → i < n → rowsText (rowFrom symbols counts args i ∷ []) ≡ rowPiece symbols counts args i
+module _ (rows : List ℕ) (fit : RowsFit rows) where
+  row-text : (i : ℕ) → i < rowCount rows → rowsText (rowIn rows i ∷ []) ≡ rowPiece rows i
   unfolding rowsText rowPiece
   row-text i h =
       append-nil _
-      ∙ ap (λ (k : ℕ). frame (1 ∷ getD symbols i 0 / 256 ∷ getD symbols i 0 % 256 ∷ k ∷ argsAt counts args i)) (args-length counts args n fit i h)
+      ∙ ap (λ (k : ℕ). frame (1 ∷ symbolIn rows i / 256 ∷ symbolIn rows i % 256 ∷ k ∷ argsIn rows i)) (row-length rows i h (fit .placed .each i h .few))
 
-  pub rows-text : (m : ℕ) → m ≤ n → rowsText (rowsFrom symbols counts args m) ≡ run (rowPiece symbols counts args) 0 m
-  unfolding rowsFrom rowsText run
-  rows-text zero h = refl
-  rows-text (suc m) h =
+  first-text : (m : ℕ) → m ≤ rowCount rows → rowsText (each (rowIn rows) m) ≡ run (rowPiece rows) 0 m
+  unfolding each rowsText run
+  first-text zero h = refl
+  first-text (suc m) h =
       let e : 0 + m ≡ m = omega arith in
-      rows-append (rowsFrom symbols counts args m) (rowFrom symbols counts args m ∷ [])
-      ∙ ap₂ (λ (a b : List ℕ). a ++ b) (rows-text m (omega arith)) (row-text m (omega arith) ∙ ap (rowPiece symbols counts args) (sym e))
-      ∙ sym (run-snoc (rowPiece symbols counts args) 0 m)
+      rows-append (each (rowIn rows) m) (rowIn rows m ∷ [])
+      ∙ ap₂ (λ (a b : List ℕ). a ++ b) (first-text m (omega arith)) (row-text m (omega arith) ∙ ap (rowPiece rows) (sym e))
+      ∙ sym (run-snoc (rowPiece rows) 0 m)
+
+  rows-text : rowsText (rowsOf rows) ≡ rowLines rows
+  unfolding rowsOf
+  rows-text = first-text (rowCount rows) (omega arith)
 
 -- ---- the equations
 
@@ -82,41 +91,47 @@ joins-text table i (suc n) = go (eqb (repAt table i) i) refl (joins-text table (
 -- ---- the differences
 
 abbrev unkey : ℕ → ℕ × ℕ
-unkey k = (k / 256, k % 256)
+unkey k = (k / keyBase, k % keyBase)
 
 abbrev apart : ℕ × ℕ → Statement
 apart p = differ (p .0) (p .1)
 
-key-text : (keys : List ℕ) (k : ℕ) → statementsText (apart (unkey (getD keys k 0)) ∷ []) ≡ keyPiece keys k
-unfolding statementsText keyPiece
-key-text keys k = append-nil (frame (3 ∷ getD keys k 0 / 256 ∷ getD keys k 0 % 256 ∷ []))
+abbrev Bytes : ℕ × ℕ → Type 0
+Bytes p = (p .0 < 256) × (p .1 < 256)
 
-keys-text : (keys : List ℕ) (n : ℕ) → n ≤ length keys → statementsText (map apart (map unkey (take n keys))) ≡ run (keyPiece keys) 0 n
+key-text : (keys : List ℕ) (k : ℕ) → Bytes (unkey (getD keys k 0)) → statementsText (apart (unkey (getD keys k 0)) ∷ []) ≡ keyPiece keys k
+unfolding statementsText keyPiece
+key-text keys k h =
+    append-nil (frame (3 ∷ getD keys k 0 / keyBase ∷ getD keys k 0 % keyBase ∷ []))
+    ∙ ap₂ (λ (a b : ℕ). frame (3 ∷ a ∷ b ∷ [])) (sym (mod-eq-of-lt (h .0))) (sym (mod-eq-of-lt (h .1)))
+
+keys-text : (keys : List ℕ) (n : ℕ) → ((k : ℕ) → k < length keys → Bytes (unkey (getD keys k 0))) → n ≤ length keys
+    → statementsText (map apart (map unkey (take n keys))) ≡ run (keyPiece keys) 0 n
 unfolding statementsText run
-keys-text keys zero h = refl
-keys-text keys (suc n) h =
+keys-text keys zero small h = refl
+keys-text keys (suc n) small h =
     let e : 0 + n ≡ n = omega arith in
     ap (λ (l : List ℕ). statementsText (map apart (map unkey l))) (take-suc keys n 0 (omega arith))
     ∙ ap (λ (l : List (ℕ × ℕ)). statementsText (map apart l)) (map-append unkey (take n keys) (getD keys n 0 ∷ []))
     ∙ ap statementsText (map-append apart (map unkey (take n keys)) (unkey (getD keys n 0) ∷ []))
     ∙ statements-append (map apart (map unkey (take n keys))) (apart (unkey (getD keys n 0)) ∷ [])
-    ∙ ap₂ (λ (a b : List ℕ). a ++ b) (keys-text keys n (omega arith)) (key-text keys n ∙ ap (keyPiece keys) (sym e))
+    ∙ ap₂ (λ (a b : List ℕ). a ++ b) (keys-text keys n small (omega arith)) (key-text keys n (small n (omega arith)) ∙ ap (keyPiece keys) (sym e))
     ∙ sym (run-snoc (keyPiece keys) 0 n)
 
 -- ---- keys in order are pairs in order
 
-unkey-key : (p : ℕ × ℕ) → p .1 < 256 → unkey (pairKey p) ≡ p
+unkey-key : (p : ℕ × ℕ) → Bytes p → unkey (pairKey p) ≡ p
 unkey-key p h =
-    let e : pairKey p / 256 ≡ p .0 = omega arith in
-    let f : pairKey p % 256 ≡ p .1 = omega arith in
+    let e : pairKey p / keyBase ≡ p .0 = omega (arith, h .1) in
+    let f : pairKey p % keyBase ≡ p .1 = omega (arith, h .1) in
     ap₂ (λ (a b : ℕ). (a, b)) e f
 
 unkey-sooner : (x y : ℕ) → x < y → Sooner (unkey x) (unkey y)
-unkey-sooner x y h = go (ltb (x / 256) (y / 256)) refl
+unkey-sooner x y h = go (ltb (x / keyBase) (y / keyBase)) refl
   where
-    go : (b : Bool) → ltb (x / 256) (y / 256) ≡ b → Sooner (unkey x) (unkey y)
-    go true e = inl (ltb-true (x / 256) (y / 256) e)
-    go false e = let l : y / 256 ≤ x / 256 = ltb-false (x / 256) (y / 256) e in inr (omega arith, omega arith)
+    go : (b : Bool) → ltb (x / keyBase) (y / keyBase) ≡ b → Sooner (unkey x) (unkey y)
+    go true e = inl (ltb-true (x / keyBase) (y / keyBase) e)
+    go false e = let l : y / keyBase ≤ x / keyBase = ltb-false (x / keyBase) (y / keyBase) e in inr (omega arith, omega arith)
 
 rising-ascending : (l : List ℕ) → Rising l → Ascending (map unkey l)
 rising-ascending [] r = tt
@@ -127,21 +142,39 @@ rising-ascending (x ∷ l) r = (above, rising-ascending l (r .1))
         let w : (y : ℕ) × In y l × (q ≡ unkey y) = map-in unkey q l i in
         subst (Sooner (unkey x)) (sym (w .2)) (unkey-sooner x (w .0) (r .0 (w .0) (w .1)))
 
-pub keys-sorted : (pairs : List (ℕ × ℕ)) (keys : List ℕ) → ((p : ℕ × ℕ) → In p pairs → p .1 < 256) → Sorts (map pairKey pairs) keys
-    → map unkey keys ≡ sorted pairs
-keys-sorted pairs keys small s =
-    ascending-one (map unkey keys) (sorted pairs) (rising-ascending keys (s .rising)) (sorted-ascending pairs) (λ p. (λ i. in-sorted p pairs (to p i), λ i. of p (sorted-in p pairs i)))
-  where
-    to : (p : ℕ × ℕ) → In p (map unkey keys) → In p pairs
-    to p i =
-        let w : (x : ℕ) × In x keys × (p ≡ unkey x) = map-in unkey p keys i in
-        let v : (q : ℕ × ℕ) × In q pairs × (w .0 ≡ pairKey q) = map-in pairKey (w .0) pairs (s .same (w .0) .0 (w .1)) in
-        subst (λ (r : ℕ × ℕ). In r pairs) (sym (w .2 ∙ ap unkey (v .2) ∙ unkey-key (v .0) (small (v .0) (v .1)))) (v .1)
+module _ (pairs : List (ℕ × ℕ)) (keys : List ℕ) (small : (p : ℕ × ℕ) → In p pairs → Bytes p) (s : Sorts (map pairKey pairs) keys) where
+  key-pair : (x : ℕ) → In x keys → (p : ℕ × ℕ) × In p pairs × (unkey x ≡ p)
+  key-pair x i =
+      let v : (q : ℕ × ℕ) × In q pairs × (x ≡ pairKey q) = map-in pairKey x pairs (s .same x .0 i) in
+      (v .0, v .1, ap unkey (v .2) ∙ unkey-key (v .0) (small (v .0) (v .1)))
 
-    of : (p : ℕ × ℕ) → In p pairs → In p (map unkey keys)
-    of p i =
-        subst (λ (r : ℕ × ℕ). In r (map unkey keys)) (unkey-key p (small p i))
-        (in-map unkey (pairKey p) keys (s .same (pairKey p) .1 (in-map pairKey p pairs i)))
+  key-bytes : (k : ℕ) → k < length keys → Bytes (unkey (getD keys k 0))
+  key-bytes k h =
+      let v : (p : ℕ × ℕ) × In p pairs × (unkey (getD keys k 0) ≡ p) = key-pair (getD keys k 0) (in-at keys k 0 h) in
+      subst Bytes (sym (v .2)) (small (v .0) (v .1))
+
+  pub keys-sorted : map unkey keys ≡ sorted pairs
+  keys-sorted =
+      ascending-one (map unkey keys) (sorted pairs) (rising-ascending keys (s .rising)) (sorted-ascending pairs)
+      (λ p. (λ i. in-sorted p pairs (to p i), λ i. of p (sorted-in p pairs i)))
+    where
+      to : (p : ℕ × ℕ) → In p (map unkey keys) → In p pairs
+      to p i =
+          let w : (x : ℕ) × In x keys × (p ≡ unkey x) = map-in unkey p keys i in
+          let v : (q : ℕ × ℕ) × In q pairs × (unkey (w .0) ≡ q) = key-pair (w .0) (w .1) in
+          subst (λ (r : ℕ × ℕ). In r pairs) (sym (w .2 ∙ v .2)) (v .1)
+
+      of : (p : ℕ × ℕ) → In p pairs → In p (map unkey keys)
+      of p i =
+          subst (λ (r : ℕ × ℕ). In r (map unkey keys)) (unkey-key p (small p i))
+          (in-map unkey (pairKey p) keys (s .same (pairKey p) .1 (in-map pairKey p pairs i)))
+
+  -- their lines are those of the sorted pairs
+  pub differences-text : statementsText (map apart (sorted pairs)) ≡ keyLines keys
+  differences-text =
+      ap (λ (l : List (ℕ × ℕ)). statementsText (map apart l)) (sym keys-sorted)
+      ∙ ap (λ (l : List ℕ). statementsText (map apart (map unkey l))) (sym (take-length keys))
+      ∙ keys-text keys (length keys) key-bytes (omega arith)
 
 -- ---- a difference's sides are rows
 
@@ -153,60 +186,57 @@ stated-last kind a b q i = go (eqb kind 2) refl
     go true e = absurd (rw (statementOf, e) at i)
     go false e = ⊎-elim (λ f. f) (λ f. absurd f) (rw (statementOf, e) at i)
 
-difference-stated : (kinds lefts rights : List ℕ) (m : ℕ) (q : ℕ × ℕ) → In q (differencesOf (statementsFrom kinds lefts rights m))
-    → (k : ℕ) × (k < m) × (q ≡ (getD lefts k 0, getD rights k 0))
-unfolding statementsFrom differencesOf
-difference-stated kinds lefts rights zero q i = absurd i
-difference-stated kinds lefts rights (suc m) q i =
-    ⊎-elim (λ j. earlier (difference-stated kinds lefts rights m q j)) (λ j. (m, omega arith, stated-last (getD kinds m 0) (getD lefts m 0) (getD rights m 0) q j))
-    (in-append q (differencesOf (statementsFrom kinds lefts rights m)) (differencesOf last) (subst (In q) (differences-append (statementsFrom kinds lefts rights m) last) i))
+difference-stated : (said : List ℕ) (m : ℕ) (q : ℕ × ℕ) → In q (differencesOf (each (statementIn said) m))
+    → (k : ℕ) × (k < m) × (q ≡ (leftIn said k, rightIn said k))
+unfolding each differencesOf
+difference-stated said zero q i = absurd i
+difference-stated said (suc m) q i =
+    ⊎-elim (λ j. earlier (difference-stated said m q j)) (λ j. (m, omega arith, stated-last (kindIn said m) (leftIn said m) (rightIn said m) q j))
+    (in-append q (differencesOf (each (statementIn said) m)) (differencesOf (statementIn said m ∷ []))
+    (subst (In q) (differences-append (each (statementIn said) m) (statementIn said m ∷ [])) i))
   where
-    last : List Statement
-    last = statementOf (getD kinds m 0) (getD lefts m 0) (getD rights m 0) ∷ []
-
-    earlier : (k : ℕ) × (k < m) × (q ≡ (getD lefts k 0, getD rights k 0)) → (k : ℕ) × (k < suc m) × (q ≡ (getD lefts k 0, getD rights k 0))
+    earlier : (k : ℕ) × (k < m) × (q ≡ (leftIn said k, rightIn said k)) → (k : ℕ) × (k < suc m) × (q ≡ (leftIn said k, rightIn said k))
     earlier w = (w .0, omega (arith, w .1), w .2)
-
-pairs-small : (kinds lefts rights : List ℕ) (m : ℕ) (table : List ℕ) (n : ℕ) → StatementsFit lefts rights m table n → (p : ℕ × ℕ)
-    → In p (map (lowerFirst (repAt table)) (differencesOf (statementsFrom kinds lefts rights m))) → p .1 < 256
-pairs-small kinds lefts rights m table n fit p i =
-    let w : (q : ℕ × ℕ) × In q (differencesOf (statementsFrom kinds lefts rights m)) × (p ≡ lowerFirst (repAt table) q) =
-    map-in (lowerFirst (repAt table)) p (differencesOf (statementsFrom kinds lefts rights m)) i in
-    let v : (k : ℕ) × (k < m) × (w .0 ≡ (getD lefts k 0, getD rights k 0)) = difference-stated kinds lefts rights m (w .0) (w .1) in
-    let e : p .1 ≡ max (repAt table (getD lefts (v .0) 0)) (repAt table (getD rights (v .0) 0)) =
-    ap (λ (r : ℕ × ℕ). r .1) (w .2 ∙ ap (lowerFirst (repAt table)) (v .2)) in
-    omega (arith, fit .reps (getD lefts (v .0) 0) (fit .left (v .0) (v .1)), fit .reps (getD rights (v .0) 0) (fit .right (v .0) (v .1)))
 
 -- ---- the whole
 
-module _ (symbols counts args : List ℕ) (n : ℕ) (kinds lefts rights : List ℕ) (m : ℕ) (table : List ℕ)
-    (fit : Writable counts args n lefts rights m table) (keys : List ℕ) (r : ℕ) (k : KeysIn table kinds lefts rights m keys r) (long : length keys ≡ 510) where
-  differences-text : statementsText (map apart (sorted (map (lowerFirst (repAt table)) (differencesOf (statementsFrom kinds lefts rights m))))) ≡ run (keyPiece keys) 0 r
-  unfolding keysOf
-  differences-text =
-      ap (λ (l : List (ℕ × ℕ)). statementsText (map apart l))
-      (sym (keys-sorted (map (lowerFirst (repAt table)) (differencesOf (statementsFrom kinds lefts rights m))) (take r keys)
-      (pairs-small kinds lefts rights m table n (fit .statements)) (k .sorts)))
-      ∙ keys-text keys r (omega (arith, k .small))
+module _ (rows said table : List ℕ) (w : Writable rows said table) where
+  pub writable-rows : RowsFit rows
+  writable-rows = record { few = w .fit .rows-few; placed = fit-rows mostRows mostStatements rows said (w .fit) }
 
-  pub text-pieces : normalText symbols counts args n kinds lefts rights m table ≡ textOf symbols counts args n table keys r
-  unfolding normalText contextText normalOf contextFrom
-  text-pieces =
-      ap₂ (λ (a b : List ℕ). a ++ b) (rows-text symbols counts args n (fit .rows) n (omega arith))
-      (ap (λ (l : ℕ). statementsText (joins (repAt table) 0 l ++ ds)) (rows-long symbols counts args n)
-      ∙ statements-append (joins (repAt table) 0 n) ds ∙ ap₂ (λ (a b : List ℕ). a ++ b) (joins-text table 0 n) differences-text)
-    where
-      ds : List Statement
-      ds = map apart (sorted (map (lowerFirst (repAt table)) (differencesOf (statementsFrom kinds lefts rights m))))
+  pub writable-named : Every (saidCount said) (NamedAt said (rowCount rows))
+  writable-named = fit-said mostRows mostStatements rows said (w .fit)
 
-pub length-text : (symbols counts args : List ℕ) (n : ℕ) (table keys : List ℕ) (r : ℕ) → RowsFit counts args n
-    → length (textOf symbols counts args n table keys r) ≡ rowsSize counts n + (joinsSize table n + r * 7)
-length-text symbols counts args n table keys r fit =
-    length-append (run (rowPiece symbols counts args) 0 n) (run (joinPiece table) 0 n ++ run (keyPiece keys) 0 r)
+  pairs : List (ℕ × ℕ)
+  pairs = map (lowerFirst (repAt table)) (differencesOf (statementsOf said))
+
+  pairs-small : (p : ℕ × ℕ) → In p pairs → Bytes p
+  unfolding pairs statementsOf
+  pairs-small p i =
+      let v : (q : ℕ × ℕ) × In q (differencesOf (statementsOf said)) × (p ≡ lowerFirst (repAt table) q) =
+      map-in (lowerFirst (repAt table)) p (differencesOf (statementsOf said)) i in
+      let u : (k : ℕ) × (k < saidCount said) × (v .0 ≡ (leftIn said k, rightIn said k)) = difference-stated said (saidCount said) (v .0) (v .1) in
+      let e : p ≡ lowerFirst (repAt table) (leftIn said (u .0), rightIn said (u .0)) = v .2 ∙ ap (lowerFirst (repAt table)) (u .2) in
+      let a : repAt table (leftIn said (u .0)) < rowCount rows = w .tabled .reps (leftIn said (u .0)) (writable-named .each (u .0) (u .1) .left) in
+      let b : repAt table (rightIn said (u .0)) < rowCount rows = w .tabled .reps (rightIn said (u .0)) (writable-named .each (u .0) (u .1) .right) in
+      subst Bytes (sym e) (omega (arith, w .fit .rows-few), omega (arith, w .fit .rows-few))
+
+  module _ (places : List ℕ) (r : ℕ) (k : KeysIn said table places r) where
+    pub text-pieces : normalText rows said table ≡ textOf rows table (take r places)
+    unfolding normalText contextText normalOf pairs keysTo statementsOf
+    text-pieces =
+        ap₂ (λ (a b : List ℕ). a ++ b) (rows-text rows writable-rows)
+        (ap (λ (l : ℕ). statementsText (joins (repAt table) 0 l ++ map apart (sorted pairs))) (rows-long rows)
+        ∙ statements-append (joins (repAt table) 0 (rowCount rows)) (map apart (sorted pairs))
+        ∙ ap₂ (λ (a b : List ℕ). a ++ b) (joins-text table 0 (rowCount rows)) (differences-text pairs (take r places) pairs-small (k .sorts)))
+
+pub length-text : (rows table keys : List ℕ) → RowsFit rows → length (textOf rows table keys) ≡ textSize rows table (length keys)
+length-text rows table keys fit =
+    length-append (rowLines rows) (joinLines table (rowCount rows) ++ keyLines keys)
     ∙ omega (
       arith,
-      length-append (run (joinPiece table) 0 n) (run (keyPiece keys) 0 r),
-      length-rows symbols counts args n n fit (omega arith),
-      length-joins table n,
-      length-keys keys r,
+      length-append (joinLines table (rowCount rows)) (keyLines keys),
+      length-rows rows (rowCount rows) fit (omega arith),
+      length-joins table (rowCount rows),
+      length-keys keys (length keys),
     )

@@ -1,40 +1,42 @@
--- The normal text that columns and a table of representatives give, and what its writer needs and answers.
---     normalText    the text
---     Writable      rows, statements and representatives are few and small enough that each field is a byte
---     writtenOf     the writer's answer as the number of bytes written, or refusal 10
+-- The normal text that runs and a table of representatives give, and what its writer needs.
+--     normalText          the text
+--     Writable            the context is well-formed and within the limits, and each row's representative is one of its rows
+--     SpacesFit           the two spaces for keys are long enough
+--     textOf, textSize    the text by its lines, and how many bytes it has
+--     TextRoom            there is room for it
 -- Assumes nothing.
 use mathlib.Core.List.{List, _++_}
-use Prim.Native.Nat.{ℕ, _≤_, _<_}
+use Prim.Native.Nat.{ℕ, _+_, _*_, _≤_}
+use lib.ListN.{length}
 use Rattle.meaning.specs.Equality.{repAt}
-use Rattle.meaning.specs.Columns.{contextFrom}
 use Rattle.meaning.specs.Writing.{contextText, normalOf}
-use Rattle.meaning.specs.Replies.{Written, wrote, unwritten, refusal}
-use Rattle.reply_lines.specs.Pieces.{Room, run}
-use Rattle.normaliser.specs.Pieces.{rowPiece, joinPiece, keyPiece}
-use Rattle.normaliser.specs.Rooms.{RowsFit}
-use Rattle.normaliser.specs.Keyed.{StatementsFit}
-use Rattle.normaliser.specs.declared.normal.Answer.{Answer}
-use Rattle.normaliser.specs.declared.normal.Answer.the-variants.{Wrote, Short}
+use Rattle.runs.specs.Limits.{mostRows, mostStatements}
+use Rattle.runs.specs.Runs.{rowCount, saidCount, contextOf}
+use Rattle.runs.specs.Fit.{FitContext}
+use Rattle.reply_lines.specs.Pieces.{Room}
+use Rattle.normaliser.specs.Pieces.{rowLines, joinLines, keyLines}
+use Rattle.normaliser.specs.Rooms.{pairLength, rowsSize, joinsSize, RowsFit, Tabled}
 
-unfoldable pub normalText : List ℕ → List ℕ → List ℕ → ℕ → List ℕ → List ℕ → List ℕ → ℕ → List ℕ → List ℕ
-normalText symbols counts args n kinds lefts rights m table =
-    contextText (normalOf (repAt table) (contextFrom symbols counts args n kinds lefts rights m))
+unfoldable pub normalText : List ℕ → List ℕ → List ℕ → List ℕ
+normalText rows said table = contextText (normalOf (repAt table) (contextOf rows said))
 
-pub record Writable (counts args : List ℕ) (n : ℕ) (lefts rights : List ℕ) (m : ℕ) (table : List ℕ) : Type 0 where
-  pub rows : RowsFit counts args n
-  pub statements : StatementsFit lefts rights m table n
+pub record Writable (rows said table : List ℕ) : Type 0 where
+  pub fit : FitContext mostRows mostStatements rows said
+  pub tabled : Tabled table (rowCount rows)
 
-abbrev pub writtenOf : Answer → Written
-writtenOf (Wrote n) = wrote n
-writtenOf Short = unwritten (refusal 10 0)
+pub record SpacesFit (said keys spare : List ℕ) : Type 0 where
+  pub keys-fit : saidCount said ≤ length keys
+  pub spare-fits : length keys ≤ length spare
 
--- the rows, the equations and the differences, piece by piece
-abbrev pub textOf : List ℕ → List ℕ → List ℕ → ℕ → List ℕ → List ℕ → ℕ → List ℕ
-textOf symbols counts args n table keys m =
-    run (rowPiece symbols counts args) 0 n ++ (run (joinPiece table) 0 n ++ run (keyPiece keys) 0 m)
+-- the rows, the equations and the differences, line by line
+abbrev pub textOf : List ℕ → List ℕ → List ℕ → List ℕ
+textOf rows table keys = rowLines rows ++ (joinLines table (rowCount rows) ++ keyLines keys)
 
-pub record TextRoom (symbols counts args : List ℕ) (n : ℕ) (table keys : List ℕ) (m : ℕ) (lent : List ℕ) : Type 0 where
-  pub rows : RowsFit counts args n
-  pub reps : (i : ℕ) → i < n → repAt table i < 255
-  pub few : m ≤ 510
-  pub room : Room lent 0 (textOf symbols counts args n table keys m)
+-- with n differences
+abbrev pub textSize : List ℕ → List ℕ → ℕ → ℕ
+textSize rows table n = rowsSize rows (rowCount rows) + (joinsSize table (rowCount rows) + n * pairLength)
+
+pub record TextRoom (rows table keys lent : List ℕ) : Type 0 where
+  pub rows-fit : RowsFit rows
+  pub tabled : Tabled table (rowCount rows)
+  pub room : Room lent 0 (textOf rows table keys)

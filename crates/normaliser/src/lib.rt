@@ -2,16 +2,15 @@
 mod keys;
 mod normal;
 
-use closing::Contradiction;
-use ledger::ContextColumns;
-use normal::Answer;
+use classes::Contradiction;
 use normal::write_normal;
 use replies::Refusal;
+ghost use Prim.Native.Nat.{_≤_};
+ghost use lib.ListN.{length, take};
 ghost use Rattle.meaning.specs.Text.{narrow};
-ghost use Rattle.meaning.specs.Replies.{normal, Leaves, Writes};
-ghost use Rattle.normaliser.specs.Normals.{writtenOf};
-ghost use Rattle.prepared.specs.Claims.{Held};
-ghost use Rattle.normaliser.specs.Claims.{Represented, textBy, Settles, writtenBy};
+ghost use Rattle.meaning.specs.Replies.{Writes};
+ghost use Rattle.normaliser.specs.Normals.{Writable};
+ghost use Rattle.normaliser.specs.Claims.{writtenBy, WritesNormal};
 
 // How many bytes were written, or the refusal.
 pub enum Written {
@@ -19,66 +18,50 @@ pub enum Written {
     Refused(Refusal),
 }
 
-// The normal text by a table of representatives, where there is room.
-fn write(c: ContextColumns, table: [u16; 255], lent: &mut [u8]) -> Answer
-    requires { ⌜ Represented c table ⌝ }
-    ensures { λ r. ⌜ Leaves (now (lent .entry)) (normal (textBy c table)) (writtenOf r) (now (lent .exit)) ⌝ }
+// The normal text of the first numbers of two runs.
+fn write<'a>(
+    rows: &'a [u16],
+    n: usize,
+    said: &'a [u16],
+    m: usize,
+    table: &'a [u16],
+    lent: &mut [u8],
+) -> Written
+    requires { ⌜ n ≤ length (now rows) ⌝ }
+    requires { ⌜ m ≤ length (now said) ⌝ }
+    requires { ⌜ Writable (take n (now rows)) (take m (now said)) (now table) ⌝ }
+    ensures { λ r. ⌜ WritesNormal (take n (now (rows .entry))) (take m (now (said .entry))) (now (table .entry)) (now (lent .entry)) r (now (lent .exit)) ⌝ }
 {
-    let rows = c.rows;
-    let statements = c.statements;
-    write_normal(
-        &c.symbols,
-        &c.counts,
-        &c.args,
-        rows,
-        &c.kinds,
-        &c.lefts,
-        &c.rights,
-        statements,
-        &table,
-        lent,
-    )
-}
-
-// The normal text of a context whose columns are well-formed, or refusal 9 or 10.
-fn settle(c: ContextColumns, lent: &mut [u8]) -> Written
-    requires { ⌜ Held c ⌝ }
-    ensures { λ r. ⌜ Settles c (now (lent .entry)) r (now (lent .exit)) ⌝ }
-{
-    let closed = prepared::classes(c);
-    let table = closed.table;
-    let clash = prepared::contradiction(c, table);
-    if let Contradiction::First(n) = clash {
-        let x = Refusal {
-            number: 9,
-            line: n + 1,
-            offset: 0,
-        };
-        return Written::Refused(x);
-    }
-    let wrote = write(c, table, lent);
-    match wrote {
-        Answer::Wrote(n) => Written::Wrote(n),
-        Answer::Short => {
-            let x = Refusal {
-                number: 10,
-                line: 0,
-                offset: 0,
-            };
-            Written::Refused(x)
-        }
-    }
+    write_normal(&rows[..n], &said[..m], table, lent)
 }
 
 // The normal text of a text's context, into the first bytes of the lent space, or the refusal.
 pub fn normalise(text: &[u8], lent: &mut [u8]) -> Written
     ensures writes { λ r. ⌜ Writes narrow (now (text .entry)) (now (lent .entry)) (writtenBy r) (now (lent .exit)) ⌝ }
 {
-    let read = reader::read(text);
-    let answer = read.answer;
-    if let reader::Answer::Refused(x) = answer {
+    let closed = ruling::close(text);
+    let told = closed.told;
+    let answer = told.answer;
+    if let told::Answer::Refused(x) = answer {
         return Written::Refused(x);
     }
-    let context = read.context;
-    settle(context, lent)
+    let clash = closed.clash;
+    if let Contradiction::First(n) = clash {
+        let x = Refusal {
+            number: 9,
+            line: (n + 1) as u16,
+            offset: 0,
+        };
+        return Written::Refused(x);
+    }
+    let filled = told.filled;
+    let table = closed.table;
+    write(
+        &told.rows,
+        filled.rows,
+        &told.said,
+        filled.said,
+        &table,
+        lent,
+    )
 }

@@ -1,107 +1,100 @@
 // The normal text of a context whose representatives are known.
-use crate::keys::Keys;
+use crate::Written;
+use crate::keys::first_of;
+use crate::keys::second_of;
 use crate::keys::sorted_keys;
+use casts::usize_of_u16;
+use replies::Refusal;
 use reply_lines::hex::high;
 use reply_lines::hex::low;
 use reply_lines::hex::put_frame;
-ghost use mathlib.Core.List.{[], _∷_};
+use runs::arg_in;
+use runs::count_in;
+use runs::limits::STATEMENTS;
+use runs::row_count;
+use runs::symbol_in;
 ghost use mathlib.Core.Path.{_≡_};
-ghost use Prim.Native.Nat.{_+_, _*_, _<_, _≤_, _/_, _%_};
-ghost use Rattle.meaning.specs.Writing.{frame};
-ghost use Rattle.meaning.specs.Replies.{Leaves, normal};
-ghost use Rattle.reply_lines.specs.Pieces.{Room, Put, run, LineRoom};
-ghost use Rattle.normaliser.specs.Pieces.{rowPiece, joinPiece, keyPiece};
-ghost use Rattle.normaliser.specs.Rooms.{rowFields, rowsSize, joinSize, joinsSize, RowsFit, RowRoom, JoinRoom, JoinsRoom, KeysRoom};
-ghost use Rattle.normaliser.specs.Normals.{Writable, normalText, textOf, TextRoom, writtenOf};
+ghost use Prim.Native.Nat.{_+_, _*_, _<_, _≤_};
+ghost use lib.ListN.{length, replicate};
+ghost use Rattle.runs.specs.Limits.{mostRows, mostStatements};
+ghost use Rattle.runs.specs.Runs.{rowCount, countIn};
+ghost use Rattle.runs.specs.Fit.{RowAt};
+ghost use Rattle.reply_lines.specs.Pieces.{low8, Room, Put, LineRoom};
+ghost use Rattle.normaliser.specs.Pieces.{rowPiece, joinPiece, keyLine, rowLines, joinLines, keyLines};
+ghost use Rattle.normaliser.specs.Rooms.{lineLength, rowLength, pairLength, rowFields, rowsSize, joinSize, joinsSize, RowsFit, RowRoom, JoinRoom, JoinsRoom};
+ghost use Rattle.normaliser.specs.Normals.{Writable, textOf, textSize, TextRoom, SpacesFit};
+ghost use Rattle.normaliser.specs.Claims.{WritesNormal};
 
-pub(crate) enum Answer {
-    Wrote(usize),
-    Short,
-}
+// The bytes of an equation's line, and of a difference's.
+const PAIR: usize = 7;
 
-fn wide(x: u16) -> usize
-    ensures { λ r. ⌜ r ≡ x ⌝ }
+// A number's low byte.
+fn byte(x: usize) -> u8
+    ensures { λ r. ⌜ r ≡ low8 x ⌝ }
 {
-    x as usize
-}
-
-fn wide8(x: u8) -> usize
-    ensures { λ r. ⌜ (r ≡ x) × (r < 256) ⌝ }
-{
-    x as usize
+    (x % 256) as u8
 }
 
 // ---- the rows
 
-fn row_fields<'a>(
-    symbols: &'a [u16; 255],
-    counts: &'a [u8; 255],
-    args: &'a [u16; 1020],
-    i: usize,
-) -> [u8; 8]
-    requires { ⌜ i < 255 ⌝ }
-    ensures { λ r. ⌜ r ≡ rowFields (now (symbols .entry)) (now (counts .entry)) (now (args .entry)) i ⌝ }
+fn row_fields(rows: &[u16], i: usize) -> [u8; 8]
+    requires { ⌜ i < rowCount (now rows) ⌝ }
+    ensures { λ r. ⌜ r ≡ rowFields (now (rows .entry)) i ⌝ }
 {
-    let s = symbols[i];
-    let k = i * 4;
+    let s = symbol_in(rows, i);
     [
         1,
         high(s),
         low(s),
-        counts[i],
-        low(args[k]),
-        low(args[k + 1]),
-        low(args[k + 2]),
-        low(args[k + 3]),
+        byte(count_in(rows, i)),
+        byte(arg_in(rows, i, 0)),
+        byte(arg_in(rows, i, 1)),
+        byte(arg_in(rows, i, 2)),
+        byte(arg_in(rows, i, 3)),
     ]
 }
 
-fn put_row<'a>(
-    symbols: &'a [u16; 255],
-    counts: &'a [u8; 255],
-    args: &'a [u16; 1020],
-    rows: usize,
-    i: usize,
-    lent: &mut [u8],
-    at: usize,
-) -> usize
-    requires { ⌜ RowRoom (now symbols) (now counts) (now args) rows i (now lent) at ⌝ }
-    ensures { λ r. ⌜ Put (now (lent .entry)) at (rowPiece (now (symbols .entry)) (now (counts .entry)) (now (args .entry)) i) r (now (lent .exit)) ⌝ }
+fn put_row(rows: &[u16], i: usize, lent: &mut [u8], at: usize) -> usize
+    requires { ⌜ RowRoom (now rows) i (now lent) at ⌝ }
+    ensures { λ r. ⌜ Put (now (lent .entry)) at (rowPiece (now (rows .entry)) i) r (now (lent .exit)) ⌝ }
 {
-    let fields = row_fields(symbols, counts, args, i);
-    let n = 4 + wide8(counts[i]);
+    let fields = row_fields(rows, i);
+    let n = 4 + count_in(rows, i);
     put_frame(fields, n, lent, at)
 }
 
-fn put_rows<'a>(
-    symbols: &'a [u16; 255],
-    counts: &'a [u8; 255],
-    args: &'a [u16; 1020],
-    rows: usize,
-    lent: &mut [u8],
-    at: usize,
-) -> usize
-    requires { ⌜ RowsFit (now counts) (now args) rows ⌝ }
-    requires { ⌜ Room (now lent) at (run (rowPiece (now symbols) (now counts) (now args)) 0 rows) ⌝ }
-    ensures { λ r. ⌜ Put (now (lent .entry)) at (run (rowPiece (now (symbols .entry)) (now (counts .entry)) (now (args .entry))) 0 rows) r (now (lent .exit)) ⌝ }
+fn put_rows(rows: &[u16], lent: &mut [u8], at: usize) -> usize
+    requires { ⌜ RowsFit (now rows) ⌝ }
+    requires { ⌜ Room (now lent) at (rowLines (now rows)) ⌝ }
+    ensures { λ r. ⌜ Put (now (lent .entry)) at (rowLines (now (rows .entry))) r (now (lent .exit)) ⌝ }
 {
+    let n = row_count(rows);
     let mut to = at;
     let mut i = 0;
-    while i < rows {
-        to = put_row(symbols, counts, args, rows, i, lent, to);
+    while i < n {
+        to = put_row(rows, i, lent, to);
         i += 1;
     }
     to
 }
 
-fn rows_length(counts: &[u8; 255], rows: usize) -> usize
-    requires { ⌜ rows ≤ 255 ⌝ }
-    ensures { λ r. ⌜ (r ≡ rowsSize (now (counts .entry)) rows) × (r < 133000) ⌝ }
+fn row_length(rows: &[u16], i: usize) -> usize
+    requires { ⌜ i < rowCount (now rows) ⌝ }
+    requires { ⌜ RowAt (now rows) i ⌝ }
+    ensures { λ r. ⌜ (r ≡ lineLength (4 + countIn (now (rows .entry)) i)) × (r ≤ rowLength) ⌝ }
 {
+    (4 + count_in(rows, i)) * 2 + 1
+}
+
+fn rows_length(rows: &[u16]) -> usize
+    requires { ⌜ RowsFit (now rows) ⌝ }
+    ensures { λ r. ⌜ (r ≡ rowsSize (now (rows .entry)) (rowCount (now (rows .entry)))) × (r ≤ mostRows * rowLength) ⌝ }
+{
+    let n = row_count(rows);
     let mut sum = 0;
     let mut i = 0;
-    while i < rows {
-        sum += 9 + wide8(counts[i]) * 2;
+    while i < n {
+        sum += row_length(rows, i);
         i += 1;
     }
     sum
@@ -109,46 +102,45 @@ fn rows_length(counts: &[u8; 255], rows: usize) -> usize
 
 // ---- the equations of the representatives
 
-fn put_join(table: &[u16; 255], i: usize, lent: &mut [u8], at: usize) -> usize
+fn put_join(table: &[u16], i: usize, lent: &mut [u8], at: usize) -> usize
     requires { ⌜ JoinRoom (now table) i (now lent) at ⌝ }
     ensures { λ r. ⌜ Put (now (lent .entry)) at (joinPiece (now (table .entry)) i) r (now (lent .exit)) ⌝ }
 {
     let p = table[i];
-    if wide(p) == i {
+    if usize_of_u16(p) == i {
         return at;
     }
-    let rep = low(p);
-    let row = i as u8;
-    put_frame([2, rep, row, 0, 0, 0, 0, 0], 3, lent, at)
+    put_frame([2, low(p), byte(i), 0, 0, 0, 0, 0], 3, lent, at)
 }
 
-fn put_joins(table: &[u16; 255], rows: usize, lent: &mut [u8], at: usize) -> usize
-    requires { ⌜ JoinsRoom (now table) rows (now lent) at ⌝ }
-    ensures { λ r. ⌜ Put (now (lent .entry)) at (run (joinPiece (now (table .entry))) 0 rows) r (now (lent .exit)) ⌝ }
+fn put_joins(table: &[u16], n: usize, lent: &mut [u8], at: usize) -> usize
+    requires { ⌜ JoinsRoom (now table) n (now lent) at ⌝ }
+    ensures { λ r. ⌜ Put (now (lent .entry)) at (joinLines (now (table .entry)) n) r (now (lent .exit)) ⌝ }
 {
     let mut to = at;
     let mut i = 0;
-    while i < rows {
+    while i < n {
         to = put_join(table, i, lent, to);
         i += 1;
     }
     to
 }
 
-fn join_length(table: &[u16; 255], i: usize) -> usize
-    requires { ⌜ i < 255 ⌝ }
-    ensures { λ r. ⌜ (r ≡ joinSize (now (table .entry)) i) × (r < 8) ⌝ }
+fn join_length(table: &[u16], i: usize) -> usize
+    requires { ⌜ i < length (now table) ⌝ }
+    ensures { λ r. ⌜ (r ≡ joinSize (now (table .entry)) i) × (r ≤ pairLength) ⌝ }
 {
-    if wide(table[i]) == i { 0 } else { 7 }
+    if usize_of_u16(table[i]) == i { 0 } else { PAIR }
 }
 
-fn joins_length(table: &[u16; 255], rows: usize) -> usize
-    requires { ⌜ rows ≤ 255 ⌝ }
-    ensures { λ r. ⌜ (r ≡ joinsSize (now (table .entry)) rows) × (r < 133000) ⌝ }
+fn joins_length(table: &[u16], n: usize) -> usize
+    requires { ⌜ n ≤ length (now table) ⌝ }
+    requires { ⌜ n ≤ mostRows ⌝ }
+    ensures { λ r. ⌜ (r ≡ joinsSize (now (table .entry)) n) × (r ≤ mostRows * pairLength) ⌝ }
 {
     let mut sum = 0;
     let mut i = 0;
-    while i < rows {
+    while i < n {
         sum += join_length(table, i);
         i += 1;
     }
@@ -157,17 +149,20 @@ fn joins_length(table: &[u16; 255], rows: usize) -> usize
 
 // ---- the differences
 
-fn put_key(key: u16, lent: &mut [u8], at: usize) -> usize
+fn put_key(key: u32, lent: &mut [u8], at: usize) -> usize
     requires { ⌜ LineRoom 3 at (now lent) ⌝ }
-    ensures { λ r. ⌜ Put (now (lent .entry)) at (frame (3 ∷ key / 256 ∷ key % 256 ∷ [])) r (now (lent .exit)) ⌝ }
+    ensures { λ r. ⌜ Put (now (lent .entry)) at (keyLine key) r (now (lent .exit)) ⌝ }
 {
-    put_frame([3, high(key), low(key), 0, 0, 0, 0, 0], 3, lent, at)
+    let p = low(first_of(key));
+    let q = low(second_of(key));
+    put_frame([3, p, q, 0, 0, 0, 0, 0], 3, lent, at)
 }
 
-fn put_keys(keys: &[u16; 510], n: usize, lent: &mut [u8], at: usize) -> usize
-    requires { ⌜ KeysRoom (now keys) n (now lent) at ⌝ }
-    ensures { λ r. ⌜ Put (now (lent .entry)) at (run (keyPiece (now (keys .entry))) 0 n) r (now (lent .exit)) ⌝ }
+fn put_keys(keys: &[u32], lent: &mut [u8], at: usize) -> usize
+    requires { ⌜ Room (now lent) at (keyLines (now keys)) ⌝ }
+    ensures { λ r. ⌜ Put (now (lent .entry)) at (keyLines (now (keys .entry))) r (now (lent .exit)) ⌝ }
 {
+    let n = keys.len();
     let mut to = at;
     let mut k = 0;
     while k < n {
@@ -179,55 +174,63 @@ fn put_keys(keys: &[u16; 510], n: usize, lent: &mut [u8], at: usize) -> usize
 
 // ---- the whole
 
-fn text_length<'a>(counts: &'a [u8; 255], rows: usize, table: &'a [u16; 255], n: usize) -> usize
-    requires { ⌜ rows ≤ 255 ⌝ }
-    requires { ⌜ n ≤ 510 ⌝ }
-    ensures { λ r. ⌜ r ≡ rowsSize (now (counts .entry)) rows + (joinsSize (now (table .entry)) rows + n * 7) ⌝ }
+// The bytes of the text with n differences.
+fn text_length(rows: &[u16], table: &[u16], n: usize) -> usize
+    requires { ⌜ RowsFit (now rows) ⌝ }
+    requires { ⌜ rowCount (now rows) ≤ length (now table) ⌝ }
+    requires { ⌜ n ≤ mostStatements ⌝ }
+    ensures { λ r. ⌜ r ≡ textSize (now (rows .entry)) (now (table .entry)) n ⌝ }
 {
-    rows_length(counts, rows) + (joins_length(table, rows) + n * 7)
+    rows_length(rows) + (joins_length(table, row_count(rows)) + n * PAIR)
 }
 
-fn put_text<'a>(
-    symbols: &'a [u16; 255],
-    counts: &'a [u8; 255],
-    args: &'a [u16; 1020],
-    rows: usize,
-    table: &'a [u16; 255],
-    keys: Keys,
-    lent: &mut [u8],
-) -> usize
-    requires { ⌜ TextRoom (now symbols) (now counts) (now args) rows (now table) (keys .places) (keys .n) (now lent) ⌝ }
-    ensures { λ r. ⌜ Put (now (lent .entry)) 0 (textOf (now (symbols .entry)) (now (counts .entry)) (now (args .entry)) rows (now (table .entry)) (keys .places) (keys .n)) r (now (lent .exit)) ⌝ }
+fn put_text(rows: &[u16], table: &[u16], keys: &[u32], lent: &mut [u8]) -> usize
+    requires { ⌜ TextRoom (now rows) (now table) (now keys) (now lent) ⌝ }
+    ensures { λ r. ⌜ Put (now (lent .entry)) 0 (textOf (now (rows .entry)) (now (table .entry)) (now (keys .entry))) r (now (lent .exit)) ⌝ }
 {
-    let places = keys.places;
-    let n = keys.n;
-    let a = put_rows(symbols, counts, args, rows, lent, 0);
-    let b = put_joins(table, rows, lent, a);
-    put_keys(&places, n, lent, b)
+    let a = put_rows(rows, lent, 0);
+    let b = put_joins(table, row_count(rows), lent, a);
+    put_keys(keys, lent, b)
 }
 
-// Writes the normal text, or nothing where it is longer than the lent space.
-pub(crate) fn write_normal<'a>(
-    symbols: &'a [u16; 255],
-    counts: &'a [u8; 255],
-    args: &'a [u16; 1020],
-    rows: usize,
-    kinds: &'a [u8; 510],
-    lefts: &'a [u16; 510],
-    rights: &'a [u16; 510],
-    statements: usize,
-    table: &'a [u16; 255],
+// Writes the normal text, or nothing where it is longer than the lent space. The two spaces for keys are lent, too.
+fn write_with(
+    rows: &[u16],
+    said: &[u16],
+    table: &[u16],
+    keys: &mut [u32],
+    spare: &mut [u32],
     lent: &mut [u8],
-) -> Answer
-    requires { ⌜ Writable (now counts) (now args) rows (now lefts) (now rights) statements (now table) ⌝ }
-    ensures { λ r. ⌜ Leaves (now (lent .entry)) (normal (normalText (now (symbols .entry)) (now (counts .entry)) (now (args .entry)) rows (now (kinds .entry)) (now (lefts .entry)) (now (rights .entry)) statements (now (table .entry)))) (writtenOf r) (now (lent .exit)) ⌝ }
+) -> Written
+    requires { ⌜ Writable (now rows) (now said) (now table) ⌝ }
+    requires { ⌜ SpacesFit (now said) (now keys) (now spare) ⌝ }
+    ensures { λ r. ⌜ WritesNormal (now (rows .entry)) (now (said .entry)) (now (table .entry)) (now (lent .entry)) r (now (lent .exit)) ⌝ }
 {
-    let keys = sorted_keys(kinds, lefts, rights, statements, table, rows);
-    let n = keys.n;
-    let length = text_length(counts, rows, table, n);
+    let n = sorted_keys(said, table, keys, spare);
+    let length = text_length(rows, table, n);
     if lent.len() < length {
-        return Answer::Short;
+        let x = Refusal {
+            number: 10,
+            line: 0,
+            offset: 0,
+        };
+        return Written::Refused(x);
     }
-    put_text(symbols, counts, args, rows, table, keys, lent);
-    Answer::Wrote(length)
+    put_text(rows, table, &keys[..n], lent);
+    Written::Wrote(length)
+}
+
+fn no_keys() -> [u32; STATEMENTS]
+    ensures { λ r. ⌜ r ≡ replicate mostStatements 0 ⌝ }
+{
+    [0; STATEMENTS]
+}
+
+pub(crate) fn write_normal(rows: &[u16], said: &[u16], table: &[u16], lent: &mut [u8]) -> Written
+    requires { ⌜ Writable (now rows) (now said) (now table) ⌝ }
+    ensures { λ r. ⌜ WritesNormal (now (rows .entry)) (now (said .entry)) (now (table .entry)) (now (lent .entry)) r (now (lent .exit)) ⌝ }
+{
+    let mut keys = no_keys();
+    let mut spare = no_keys();
+    write_with(rows, said, table, &mut keys, &mut spare, lent)
 }

@@ -4,11 +4,11 @@ use Rattle.normaliser.proofs.Gathering.{mine}
 use Rattle.normaliser.proofs.keys.note.Statement.{statement}
 use Rattle.normaliser.proofs.keys.note.Tie as tie
 
-mul-places : tie.Need-mul-places
-mul-places c = search mine
+mul-keys : tie.Need-mul-keys
+mul-keys c = search mine
 
-slice-write-places : tie.Need-slice-write-places
-slice-write-places c = search mine
+slice-write-keys : tie.Need-slice-write-keys
+slice-write-keys c = search mine
 
 add-result : tie.Need-add-result
 add-result c = search mine
@@ -23,5 +23,4 @@ returns-2 : tie.Need-returns-2
 returns-2 c = search mine
 
 pub note-spec : {M : Type 1} → statement M
-note-spec =
-    tie.close (tie.spec mul-places slice-write-places add-result returns same-length returns-2)
+note-spec = tie.close (tie.spec mul-keys slice-write-keys add-result returns same-length returns-2)

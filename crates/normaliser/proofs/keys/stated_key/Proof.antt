@@ -1,26 +1,26 @@
--- `keys::stated_key` meets its contract: the sides are rows, so that their representatives are bytes.
+-- `keys::stated_key` meets its contract: the sides are rows that have a representative.
 -- Assumes nothing.
 use Rattle.normaliser.proofs.Gathering.{mine}
 use Rattle.normaliser.proofs.keys.stated_key.Statement.{statement}
 use Rattle.normaliser.proofs.keys.stated_key.Tie as tie
 
-mul-p : tie.Need-mul-p
-mul-p c = search mine
+left-in-requires : tie.Need-left-in-requires
+left-in-requires c κs = search mine
 
-element-copy-out-p : tie.Need-element-copy-out-p
-element-copy-out-p c = search mine
+right-in-requires : tie.Need-right-in-requires
+right-in-requires c κs = search mine
 
-mul-q : tie.Need-mul-q
-mul-q c = search mine
+mul-key-of : tie.Need-mul-key-of
+mul-key-of c = search mine
 
-element-copy-out-q : tie.Need-element-copy-out-q
-element-copy-out-q c = search mine
+shared-slice-read-key-of : tie.Need-shared-slice-read-key-of
+shared-slice-read-key-of c = search mine
 
-rep-of-requires : tie.Need-rep-of-requires
-rep-of-requires c κs = search mine
+mul-key-of-2 : tie.Need-mul-key-of-2
+mul-key-of-2 c = search mine
 
-rep-of-requires-2 : tie.Need-rep-of-requires-2
-rep-of-requires-2 c κs = search mine
+shared-slice-read-key-of-2 : tie.Need-shared-slice-read-key-of-2
+shared-slice-read-key-of-2 c = search mine
 
 key-of-requires : tie.Need-key-of-requires
 key-of-requires c κs = search mine
@@ -32,11 +32,11 @@ pub stated-key-spec : {M : Type 1} → statement M
 stated-key-spec =
     tie.close
     (tie.spec
-    mul-p
-    element-copy-out-p
-    mul-q
-    element-copy-out-q
-    rep-of-requires
-    rep-of-requires-2
+    left-in-requires
+    right-in-requires
+    mul-key-of
+    shared-slice-read-key-of
+    mul-key-of-2
+    shared-slice-read-key-of-2
     key-of-requires
     returns)

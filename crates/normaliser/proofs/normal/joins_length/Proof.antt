@@ -1,17 +1,17 @@
--- `normal::joins_length` meets its contract. The invariant: the sum is the size of the first i equations. The measure is the number of rows left.
+-- `normal::joins_length` meets its contract. The invariant: the sum is the size of the equations before row i. The measure is the number of rows left.
 -- Assumes nothing.
 use Prim.Native.Nat.{_-_}
-use Rattle.normaliser.specs.Rooms.{joinsSize}
+use Rattle.normaliser.specs.Rooms.{pairLength, joinsSize}
 use Rattle.normaliser.proofs.Rows.{Sizing}
 use Rattle.normaliser.proofs.Pairs.{mine}
 use Rattle.normaliser.proofs.normal.joins_length.Statement.{statement}
 use Rattle.normaliser.proofs.normal.joins_length.Tie as tie
 
 abbrev Inv-loop : tie.InvT-loop
-Inv-loop table rows sum₀ i₀ sum i = Sizing (joinsSize table) rows i sum
+Inv-loop table n sum₀ i₀ sum i = Sizing (joinsSize table) pairLength n i sum
 
 abbrev μ-loop : tie.MeasureT-loop
-μ-loop table rows sum₀ i₀ sum i = rows - i
+μ-loop table n sum₀ i₀ sum i = n - i
 
 loop-holds : tie.Need-loop-holds Inv-loop μ-loop
 loop-holds c = search mine

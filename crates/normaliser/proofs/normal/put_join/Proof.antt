@@ -1,4 +1,4 @@
--- `normal::put_join` meets its contract, by cases: a row that is its own representative has no line.
+-- `normal::put_join` meets its contract, by cases on whether the row is its own representative.
 -- Assumes nothing.
 use Rattle.normaliser.proofs.Pairs.{mine}
 use Rattle.normaliser.proofs.normal.put_join.Statement.{statement}
@@ -7,11 +7,11 @@ use Rattle.normaliser.proofs.normal.put_join.Tie as tie
 mul-p : tie.Need-mul-p
 mul-p c = search mine
 
-element-copy-out-p : tie.Need-element-copy-out-p
-element-copy-out-p c = search mine
+shared-slice-read-p : tie.Need-shared-slice-read-p
+shared-slice-read-p c = search mine
 
-wide-requires : tie.Need-wide-requires
-wide-requires c κs = search mine
+usize-of-u16-requires : tie.Need-usize-of-u16-requires
+usize-of-u16-requires c κs = search mine
 
 returns : tie.Need-returns
 returns c = search mine
@@ -19,8 +19,8 @@ returns c = search mine
 low-requires : tie.Need-low-requires
 low-requires c κs = search mine
 
-cast-row : tie.Need-cast-row
-cast-row c = search mine
+byte-requires : tie.Need-byte-requires
+byte-requires c κs = search mine
 
 put-frame-requires : tie.Need-put-frame-requires
 put-frame-requires c κs = search mine
@@ -36,11 +36,11 @@ put-join-spec =
     tie.close
     (tie.spec
     mul-p
-    element-copy-out-p
-    wide-requires
+    shared-slice-read-p
+    usize-of-u16-requires
     returns
     low-requires
-    cast-row
+    byte-requires
     put-frame-requires
     same-length
     returns-2)

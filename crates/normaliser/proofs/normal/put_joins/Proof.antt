@@ -1,4 +1,4 @@
--- `normal::put_joins` meets its contract. The invariant: the equations of the first i rows are put, and those that are left fit. The measure is the number of rows left.
+-- `normal::put_joins` meets its contract. The invariant: the equations before row i are put, and those that are left fit. The measure is the number of rows left.
 -- Assumes nothing.
 use Prim.Native.Nat.{_-_}
 use Rattle.normaliser.specs.Pieces.{joinPiece}
@@ -8,10 +8,10 @@ use Rattle.normaliser.proofs.normal.put_joins.Statement.{statement}
 use Rattle.normaliser.proofs.normal.put_joins.Tie as tie
 
 abbrev Inv-loop : tie.InvT-loop
-Inv-loop table rows lent₀ at to₀ i₀ lent to i = Running (joinPiece table) rows lent₀ at i to lent
+Inv-loop table n lent₀ at to₀ i₀ lent to i = Running (joinPiece table) n lent₀ at i to lent
 
 abbrev μ-loop : tie.MeasureT-loop
-μ-loop table rows lent₀ at to₀ i₀ lent to i = rows - i
+μ-loop table n lent₀ at to₀ i₀ lent to i = n - i
 
 loop-holds : tie.Need-loop-holds Inv-loop μ-loop
 loop-holds c = search mine

@@ -8,10 +8,10 @@ use Rattle.normaliser.proofs.normal.put_keys.Statement.{statement}
 use Rattle.normaliser.proofs.normal.put_keys.Tie as tie
 
 abbrev Inv-loop : tie.InvT-loop
-Inv-loop keys n lent₀ at to₀ k₀ lent to k = Running (keyPiece keys) n lent₀ at k to lent
+Inv-loop keys lent₀ at n to₀ k₀ lent to k = Running (keyPiece keys) n lent₀ at k to lent
 
 abbrev μ-loop : tie.MeasureT-loop
-μ-loop keys n lent₀ at to₀ k₀ lent to k = n - k
+μ-loop keys lent₀ at n to₀ k₀ lent to k = n - k
 
 loop-holds : tie.Need-loop-holds Inv-loop μ-loop
 loop-holds c = search mine
@@ -19,8 +19,8 @@ loop-holds c = search mine
 mul-put-key : tie.Need-mul-put-key Inv-loop μ-loop
 mul-put-key c = search mine
 
-element-copy-out-put-key : tie.Need-element-copy-out-put-key Inv-loop μ-loop
-element-copy-out-put-key c = search mine
+shared-slice-read-put-key : tie.Need-shared-slice-read-put-key Inv-loop μ-loop
+shared-slice-read-put-key c = search mine
 
 put-key-requires : tie.Need-put-key-requires Inv-loop μ-loop
 put-key-requires c κs = search mine
@@ -48,7 +48,7 @@ put-keys-spec =
     μ-loop
     loop-holds
     mul-put-key
-    element-copy-out-put-key
+    shared-slice-read-put-key
     put-key-requires
     add-k
     loop-less

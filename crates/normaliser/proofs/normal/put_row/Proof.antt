@@ -1,4 +1,4 @@
--- `normal::put_row` meets its contract: the first fields of a row, as many as its count asks for, make its line.
+-- `normal::put_row` meets its contract: the first fields make the row's line.
 -- Assumes nothing.
 use Rattle.normaliser.proofs.Rows.{mine}
 use Rattle.normaliser.proofs.normal.put_row.Statement.{statement}
@@ -7,11 +7,8 @@ use Rattle.normaliser.proofs.normal.put_row.Tie as tie
 row-fields-requires : tie.Need-row-fields-requires
 row-fields-requires c κs = search mine
 
-element-copy-out-wide8 : tie.Need-element-copy-out-wide8
-element-copy-out-wide8 c = search mine
-
-wide8-requires : tie.Need-wide8-requires
-wide8-requires c κs = search mine
+count-in-requires : tie.Need-count-in-requires
+count-in-requires c κs = search mine
 
 add-n : tie.Need-add-n
 add-n c = search mine
@@ -28,11 +25,4 @@ returns c = search mine
 pub put-row-spec : {M : Type 1} → statement M
 put-row-spec =
     tie.close
-    (tie.spec
-    row-fields-requires
-    element-copy-out-wide8
-    wide8-requires
-    add-n
-    put-frame-requires
-    same-length
-    returns)
+    (tie.spec row-fields-requires count-in-requires add-n put-frame-requires same-length returns)

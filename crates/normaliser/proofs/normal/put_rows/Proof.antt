@@ -8,10 +8,13 @@ use Rattle.normaliser.proofs.normal.put_rows.Statement.{statement}
 use Rattle.normaliser.proofs.normal.put_rows.Tie as tie
 
 abbrev Inv-loop : tie.InvT-loop
-Inv-loop symbols counts args rows lent₀ at to₀ i₀ lent to i = Running (rowPiece symbols counts args) rows lent₀ at i to lent
+Inv-loop rows lent₀ at n to₀ i₀ lent to i = Running (rowPiece rows) n lent₀ at i to lent
 
 abbrev μ-loop : tie.MeasureT-loop
-μ-loop symbols counts args rows lent₀ at to₀ i₀ lent to i = rows - i
+μ-loop rows lent₀ at n to₀ i₀ lent to i = n - i
+
+row-count-requires : tie.Need-row-count-requires Inv-loop μ-loop
+row-count-requires c κs = search mine
 
 loop-holds : tie.Need-loop-holds Inv-loop μ-loop
 loop-holds c = search mine
@@ -40,6 +43,7 @@ put-rows-spec =
     (tie.spec
     Inv-loop
     μ-loop
+    row-count-requires
     loop-holds
     put-row-requires
     add-i
