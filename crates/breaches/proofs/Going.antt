@@ -13,8 +13,8 @@ use native.Mathlib.Omega.{arith}
 use borrow.Author.Needs.{needs}
 use borrow.Author.Tests.{not-true, not-false}
 use lib.ListN.{length, take, drop, replicate, length-replicate}
-use Rattle.ledger.specs.declared.ContextColumns.{ContextColumns}
-use Rattle.ledger.specs.declared.ClauseColumns.{ClauseColumns}
+use Rattle.meaning.specs.Context.{Context}
+use Rattle.meaning.specs.Rules.{Clause}
 use Rattle.listing.specs.declared.Stage.{Stage}
 use Rattle.listing.specs.declared.Stage.the-variants.{Start, After, Done}
 use Rattle.listing.specs.declared.State.{State}
@@ -30,7 +30,7 @@ use Rattle.channels.proofs.Taking.{takes-within, takes-read}
 use Rattle.breaches.specs.Giving.{pieceRoom, Gives, ListedFrom}
 use Rattle.breaches.proofs.Handing.{head-fits, head-heads, head-whole, head-left}
 
-module _ (c : ContextColumns) (t : List ℕ) (k : ClauseColumns) where
+module _ (c : Context) (t : List ℕ) (k : Clause) where
   -- ---- a piece
 
   module _ (s : State) (r : Filled) (after : List ℕ) (f : Fills c t k s (replicate pieceRoom 0) r after) where

@@ -13,6 +13,7 @@ use Rattle.meaning.specs.Replies.{refused, refusal, printed}
 use Rattle.meaning.specs.Listing.{BreachesPrints}
 use Rattle.replies.specs.Told.{meant}
 use Rattle.reply_lines.specs.Prints.{Prints}
+use Rattle.hunting.specs.Laid.{contextIn, ruleIn}
 use Rattle.listing.specs.declared.State.{State}
 use Rattle.listing.specs.declared.opening.Opened.{Opened}
 use Rattle.listing.specs.Filling.{over}
@@ -45,7 +46,7 @@ module _ (input : List ℕ) (o : Opened) (opens : Opens input o) where
       only : o .state ≡ doneState → Heads input headOf
       only e =
           alone headOf
-          (subst (BreachesPrints narrow input) (append-nil headOf) (opened-prints input o opens (λ _. pieceRoom) [] (subst (λ (s : State). ListedFrom (o .context) (o .table) (o .clause) s []) (sym e) (over 0 doneState refl))))
+          (subst (BreachesPrints narrow input) (append-nil headOf) (opened-prints input o opens (λ _. pieceRoom) [] (subst (λ (s : State). ListedFrom (contextIn (o .laid)) (o .laid .table) (ruleIn (o .laid)) s []) (sym e) (over 0 doneState refl))))
 
       go : (s : State) → o .state ≡ s → Begins input (o .line) s → Heads input headOf
       go s e (long h p) = only e
@@ -53,10 +54,10 @@ module _ (input : List ℕ) (o : Opened) (opens : Opens input o) where
       go s e (ready h w p) =
           subst (Heads input) (sym (front-taken [] (replicate (32 - 0) 0) (o .line .bytes) (o .line .len) (p .size) (p .front))) before
 
-  pub head-whole : (a b r : Sent) → Carries headOf a → Delivers (ListedFrom (o .context) (o .table) (o .clause) (o .state)) b
+  pub head-whole : (a b r : Sent) → Carries headOf a → Delivers (ListedFrom (contextIn (o .laid)) (o .laid .table) (ruleIn (o .laid)) (o .state)) b
       → r ≡ bothOf (a .fate) a b → Delivers (BreachesPrints narrow input) r
   head-whole a b r c d e =
-      delivers-after (ListedFrom (o .context) (o .table) (o .clause) (o .state)) (BreachesPrints narrow input) headOf a b r c d
+      delivers-after (ListedFrom (contextIn (o .laid)) (o .laid .table) (ruleIn (o .laid)) (o .state)) (BreachesPrints narrow input) headOf a b r c d
       (opened-prints input o opens (λ _. pieceRoom)) e
 
 pub head-left : (input : List ℕ) (a : Sent) (b : Bool) → b ≡ wholeBy (a .fate) → not b ≡ true → Delivers (BreachesPrints narrow input) a

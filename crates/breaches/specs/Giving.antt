@@ -8,8 +8,8 @@ use mathlib.Core.List.{List, []}
 use Prim.Native.Nat.{ℕ}
 use Rattle.meaning.specs.Text.{narrow}
 use Rattle.meaning.specs.Listing.{BreachesPrints}
-use Rattle.ledger.specs.declared.ContextColumns.{ContextColumns}
-use Rattle.ledger.specs.declared.ClauseColumns.{ClauseColumns}
+use Rattle.meaning.specs.Context.{Context}
+use Rattle.meaning.specs.Rules.{Clause}
 use Rattle.listing.specs.declared.State.{State}
 use Rattle.listing.specs.Filling.{Runs, Pieces}
 use Rattle.channels.specs.declared.output.Sent.{Sent}
@@ -22,10 +22,10 @@ pub data Heads (input : List ℕ) : List ℕ → Type 0 where
   alone : (line : List ℕ) → BreachesPrints narrow input line → Heads input line
   before : Heads input []
 
-pub record Gives (c : ContextColumns) (table : List ℕ) (k : ClauseColumns) (s : State) (sent : Sent) (next : State) : Type 0 where
+pub record Gives (c : Context) (table : List ℕ) (k : Clause) (s : State) (sent : Sent) (next : State) : Type 0 where
   pub bytes : List ℕ
   pub runs : Runs c table k pieceRoom s bytes next
   pub carries : Carries bytes sent
 
-abbrev pub ListedFrom : ContextColumns → List ℕ → ClauseColumns → State → List ℕ → Type 0
+abbrev pub ListedFrom : Context → List ℕ → Clause → State → List ℕ → Type 0
 ListedFrom c table k s out = Pieces c table k (λ _. pieceRoom) 0 s out

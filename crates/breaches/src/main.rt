@@ -10,11 +10,13 @@ use channels::output::put;
 use channels::telling::FAILED;
 use channels::telling::report;
 use channels::telling::tell;
-use ledger::ClauseColumns;
-use ledger::ContextColumns;
+use hunting::Laid;
+use hunting::PAIRS;
+use hunting::unknown;
 use listing::State;
 ghost use Rattle.meaning.specs.Text.{narrow};
 ghost use Rattle.meaning.specs.Listing.{BreachesPrints};
+ghost use Rattle.hunting.specs.Laid.{contextIn, ruleIn};
 ghost use Rattle.listing.specs.Filling.{Lent, Runs};
 ghost use Rattle.channels.specs.Taking.{Read};
 ghost use Rattle.channels.specs.Sending.{Carries, Delivers};
@@ -38,56 +40,35 @@ fn hand_head<'a>(input: &'a [u8], line: &'a [u8]) -> Sent
 }
 
 // Hands over the lines from a state to the next.
-fn hand(
-    c: ContextColumns,
-    table: [u16; 255],
-    k: ClauseColumns,
-    state: State,
-    next: State,
-    bytes: &[u8],
-) -> Sent
-    requires { ⌜ Runs c table k pieceRoom state (now bytes) next ⌝ }
-    ensures { λ s. ⌜ Gives c table k state s next ⌝ }
+fn hand(l: Laid, state: State, next: State, bytes: &[u8]) -> Sent
+    requires { ⌜ Runs (contextIn l) (l .table) (ruleIn l) pieceRoom state (now bytes) next ⌝ }
+    ensures { λ s. ⌜ Gives (contextIn l) (l .table) (ruleIn l) state s next ⌝ }
 {
     put(bytes)
 }
 
-fn piece(
-    c: ContextColumns,
-    table: [u16; 255],
-    k: ClauseColumns,
-    busy: &[u8; 255],
-    known: &mut [u8; 65025],
-    state: State,
-) -> Given
-    requires { ⌜ Lent c table (now busy) (now known) ⌝ }
-    ensures { λ r. ⌜ Gives c table k state (r .sent) (r .next) ⌝ }
-    ensures { λ _. ⌜ Lent c table (now (busy .entry)) (now (known .exit)) ⌝ }
+fn piece(l: Laid, known: &mut [u8; PAIRS], state: State) -> Given
+    requires { ⌜ Lent l (now known) ⌝ }
+    ensures { λ r. ⌜ Gives (contextIn l) (l .table) (ruleIn l) state (r .sent) (r .next) ⌝ }
+    ensures { λ _. ⌜ Lent l (now (known .exit)) ⌝ }
 {
     let mut space = [0u8; PIECE];
-    let filled = listing::fill(c, table, k, busy, known, state, &mut space);
+    let filled = listing::fill(l, known, state, &mut space);
     let used = filled.used;
     let next = filled.next;
-    let sent = hand(c, table, k, state, next, &space[..used]);
+    let sent = hand(l, state, next, &space[..used]);
     Given { sent, next }
 }
 
 // Hands over the list from a state on, piece by piece, as long as each is taken.
-fn list(
-    c: ContextColumns,
-    table: [u16; 255],
-    k: ClauseColumns,
-    busy: &[u8; 255],
-    known: &mut [u8; 65025],
-    from: State,
-) -> Sent
-    requires { ⌜ Lent c table (now busy) (now known) ⌝ }
-    ensures { λ s. ⌜ Delivers (ListedFrom c table k from) s ⌝ }
+fn list(l: Laid, known: &mut [u8; PAIRS], from: State) -> Sent
+    requires { ⌜ Lent l (now known) ⌝ }
+    ensures { λ s. ⌜ Delivers (ListedFrom (contextIn l) (l .table) (ruleIn l) from) s ⌝ }
 {
     let mut sent = nothing();
     let mut state = from;
     while !listing::is_done(state) {
-        let given = piece(c, table, k, busy, known, state);
+        let given = piece(l, known, state);
         let more = given.sent;
         sent = both(sent, more);
         if !is_whole(sent) {
@@ -111,13 +92,10 @@ fn answer(got: Got, input: &[u8]) -> Sent
     if !is_whole(head) {
         return head;
     }
-    let context = opened.context;
-    let table = opened.table;
-    let clause = opened.clause;
+    let laid = opened.laid;
     let state = opened.state;
-    let busy = opened.busy;
-    let mut known = differing::unknown();
-    let rest = list(context, table, clause, &busy, &mut known, state);
+    let mut known = unknown();
+    let rest = list(laid, &mut known, state);
     both(head, rest)
 }
 

@@ -15,9 +15,6 @@ use Rattle.meaning.specs.Listing.{Goes}
 use Rattle.meaning.specs.Following.{widerBy}
 use Rattle.meaning.proofs.Listing.{goes-one}
 use Rattle.meaning.proofs.ListingNext.{everyBy, everyAfter, every-goes, after-goes}
-use Rattle.ledger.specs.declared.ContextColumns.{ContextColumns}
-use Rattle.ledger.specs.declared.ClauseColumns.{ClauseColumns}
-use Rattle.prepared.specs.Claims.{said, asked}
 use Rattle.listing.specs.declared.Stage.{Stage}
 use Rattle.listing.specs.declared.Stage.the-variants.{Start, After, Done}
 use Rattle.listing.specs.declared.State.{State}
@@ -36,8 +33,8 @@ leftBy Start n = suc n
 leftBy After n = suc n
 leftBy Done n = 0
 
-unfoldable pub leftOf : ContextColumns → List ℕ → ClauseColumns → State → ℕ
-leftOf c table k s = leftBy (s .stage) (length (restBy (said c) table (asked k) (s .stage) (s .places)))
+unfoldable pub leftOf : Context → List ℕ → Clause → State → ℕ
+leftOf c table k s = leftBy (s .stage) (length (restBy c table k (s .stage) (s .places)))
 
 left-going : (x : Stage) (n : ℕ) → (x ≡ Done → ⊥) → leftBy x n ≡ suc n
 unfolding leftBy
@@ -49,28 +46,28 @@ left-done : (x : Stage) (n : ℕ) → x ≡ Done → leftBy x n ≡ 0
 unfolding leftBy
 left-done x n h = rw h refl
 
-module _ (c : ContextColumns) (t : List ℕ) (k : ClauseColumns) where
-  rest-goes : (x : Stage) (places : List ℕ) → (x ≡ Done → ⊥) → Goes (onward c t k) (comesBy (said c) t (asked k) x places) (restBy (said c) t (asked k) x places)
+module _ (c : Context) (t : List ℕ) (k : Clause) where
+  rest-goes : (x : Stage) (places : List ℕ) → (x ≡ Done → ⊥) → Goes (onward c t k) (comesBy c t k x places) (restBy c t k x places)
   unfolding comesBy restBy
   rest-goes Start places h =
-      every-goes (widerBy (said c)) (said c .rows) (repAt t) 65536 (asked k) (λ a. placesOf (breach a)) placed-front
+      every-goes (widerBy c) (c .rows) (repAt t) 65536 k (λ a. placesOf (breach a)) placed-front
   rest-goes After places h =
-      after-goes (widerBy (said c)) (said c .rows) (repAt t) 65536 (asked k) (λ a. placesOf (breach a)) placed-front places
+      after-goes (widerBy c) (c .rows) (repAt t) 65536 k (λ a. placesOf (breach a)) placed-front places
   rest-goes Done places h = absurd (h refl)
 
-  comes-goes : (s : State) (r : Found) → Comes c t k s r → Goes (onward c t k) r (restBy (said c) t (asked k) (s .stage) (s .places))
-  comes-goes s r w = subst (λ (f : Found). Goes (onward c t k) f (restBy (said c) t (asked k) (s .stage) (s .places))) (sym (w .what)) (rest-goes (s .stage) (s .places) (w .going))
+  comes-goes : (s : State) (r : Found) → Comes c t k s r → Goes (onward c t k) r (restBy c t k (s .stage) (s .places))
+  comes-goes s r w = subst (λ (f : Found). Goes (onward c t k) f (restBy c t k (s .stage) (s .places))) (sym (w .what)) (rest-goes (s .stage) (s .places) (w .going))
 
-  comes-left : (s : State) (r : Found) → Comes c t k s r → leftOf c t k s ≡ suc (length (restBy (said c) t (asked k) (s .stage) (s .places)))
+  comes-left : (s : State) (r : Found) → Comes c t k s r → leftOf c t k s ≡ suc (length (restBy c t k (s .stage) (s .places)))
   unfolding leftOf
-  comes-left s r w = left-going (s .stage) (length (restBy (said c) t (asked k) (s .stage) (s .places))) (w .going)
+  comes-left s r w = left-going (s .stage) (length (restBy c t k (s .stage) (s .places))) (w .going)
 
   falls-from : (n : ℕ) (s u : State) (bytes : List ℕ) (r : Found) → 13 ≤ n → Comes c t k s r → Runs c t k n s bytes u → leftOf c t k u < leftOf c t k s
   unfolding leftOf
   falls-from n s u bytes r h w y = go (subst (λ (z : State). Shorter c t k z l) (sym last) (a .shorter))
     where
       l : List (List ℕ)
-      l = restBy (said c) t (asked k) (s .stage) (s .places)
+      l = restBy c t k (s .stage) (s .places)
 
       a : Advance c t k n s l
       a = run-on c t k n s r l w (comes-goes s r w) (omega (arith, line-short c t k s r w))
@@ -80,15 +77,15 @@ module _ (c : ContextColumns) (t : List ℕ) (k : ClauseColumns) where
 
       go : Shorter c t k u l → leftOf c t k u < leftOf c t k s
       go (none-left e) =
-          omega (arith, comes-left s r w, left-done (u .stage) (length (restBy (said c) t (asked k) (u .stage) (u .places))) e)
+          omega (arith, comes-left s r w, left-done (u .stage) (length (restBy c t k (u .stage) (u .places))) e)
       go (fewer q m v g lt) =
-          let e : m ≡ restBy (said c) t (asked k) (u .stage) (u .places) =
-          goes-one 0 (onward c t k) q m (restBy (said c) t (asked k) (u .stage) (u .places)) g (comes-goes u q v) in
+          let e : m ≡ restBy c t k (u .stage) (u .places) =
+          goes-one 0 (onward c t k) q m (restBy c t k (u .stage) (u .places)) g (comes-goes u q v) in
           omega (arith, comes-left s r w, comes-left u q v, ap length e)
 
   pub runs-falls : (n : ℕ) (s u : State) (bytes : List ℕ) → 13 ≤ n → (s .stage ≡ Done → ⊥) → Runs c t k n s bytes u → leftOf c t k u < leftOf c t k s
   unfolding leftOf
   runs-falls n s u bytes h g (stops m z w) =
-      omega (arith, left-going (z .stage) (length (restBy (said c) t (asked k) (z .stage) (z .places))) g, left-done Done (length (restBy (said c) t (asked k) Done (replicate 4 255))) refl)
+      omega (arith, left-going (z .stage) (length (restBy c t k (z .stage) (z .places))) g, left-done Done (length (restBy c t k Done (replicate 4 255))) refl)
   runs-falls n s u bytes h g (waits m z r w l) = falls-from m z z [] r h w (waits m z r w l)
   runs-falls n s u bytes h g (writes m z r w l b v y) = falls-from m z v (printed (replyOf r) ++ b) r h w (writes m z r w l b v y)

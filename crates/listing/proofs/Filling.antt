@@ -8,20 +8,21 @@ use mathlib.Core.List.{List, [], _∷_, _++_, append-nil, append-assoc}
 use mathlib.Core.Path.{_≡_, refl, sym, ap, ap₂, subst, _∙_}
 use Prim.Native.Nat.{ℕ, _+_, _-_, _≤_, _<_}
 use native.Mathlib.Omega.{arith}
+use mir.Syntax.{w64}
+use mir.Val.{Fits}
 use borrow.Author.Needs.{needs}
 use lib.ListN.{length, take, drop, replicate, length-append, length-replicate}
 use lib.Seq.{sets, sets-eq, length-sets, take-at, drop-append-add, drop-drop}
-use Rattle.meaning.specs.Rules.{Found, nothing}
+use Rattle.meaning.specs.Context.{Context}
+use Rattle.meaning.specs.Rules.{Clause, Found, nothing}
 use Rattle.meaning.specs.Writing.{frame}
 use Rattle.meaning.specs.Replies.{Reply, codeOf, valuesOf, replyOf, printed}
-use Rattle.ledger.specs.declared.ContextColumns.{ContextColumns}
-use Rattle.ledger.specs.declared.ClauseColumns.{ClauseColumns}
 use Rattle.reply_lines.specs.Prints.{Prints}
 use Rattle.reply_lines.proofs.Lines.{length-frame}
 use Rattle.listing.specs.declared.State.{State}
 use Rattle.listing.specs.declared.Filled.{Filled}
 use Rattle.listing.specs.declared.Entry.{Entry}
-use Rattle.listing.specs.Filling.{stateAfter, Comes, Stopped, done, unfit, Runs, stops, waits, writes, Fills}
+use Rattle.listing.specs.Filling.{stateAfter, Comes, Stopped, Runs, stops, waits, writes, Fills}
 use Rattle.listing.specs.Entries.{EntryAt, line, stop, Lined}
 
 -- a line has bytes
@@ -44,7 +45,7 @@ stored-behind lent after p q n h e l room =
         ap (drop (n + length q)) e ∙ ap (λ (i : ℕ). drop (i + length q) (p ++ drop n lent)) h
         ∙ drop-append-add p (drop n lent) (length q) ∙ drop-drop (length q) n lent
 
-module _ (c : ContextColumns) (t : List ℕ) (k : ClauseColumns) (s : State) (lent : List ℕ) where
+module _ (c : Context) (t : List ℕ) (k : Clause) (s : State) (lent : List ℕ) where
   pub record Filling (used : ℕ) (at : State) (after : List ℕ) : Type 0 where
     pub written : List ℕ
     pub size : used ≡ length written
@@ -90,6 +91,9 @@ module _ (c : ContextColumns) (t : List ℕ) (k : ClauseColumns) (s : State) (le
             writes (length lent - used) at r w (omega (arith, f .long, p .size)) bytes u
             (subst (λ (z : State). Runs c t k ((length lent - used) - length l) z bytes u) n (subst (λ (i : ℕ). Runs c t k i (e .next) bytes u) d x))
 
+    pub filling-fits : e .len ≤ length after - used → Fits w64 (length after) → Fits w64 (used + e .len)
+    filling-fits room h = omega (arith, f .within, f .long)
+
     pub filling-step : EntryAt c t k at e → (e .len ≡ 0 → ⊥) → e .len ≤ length after - used
         → (new : List ℕ) → new ≡ sets after used (take (e .len) (e .bytes)) → Filling (used + e .len) (e .next) new
     filling-step (line r w p n) some room = step-line r w p n room
@@ -128,14 +132,13 @@ module _ (c : ContextColumns) (t : List ℕ) (k : ClauseColumns) (s : State) (le
 
 -- ---- one answer
 
-pub stopped-comes : (c : ContextColumns) (t : List ℕ) (k : ClauseColumns) (s : State) (r : Found) → Stopped c k s → Comes c t k s r → ⊥
-stopped-comes c t k s r (done q) w = w .going q
-stopped-comes c t k s r (unfit n) w = n (w .fitted)
+pub stopped-comes : (c : Context) (t : List ℕ) (k : Clause) (s : State) (r : Found) → Stopped s → Comes c t k s r → ⊥
+stopped-comes c t k s r q w = w .going (q .done)
 
-pub comes-one : (c : ContextColumns) (t : List ℕ) (k : ClauseColumns) (s : State) (q r : Found) → Comes c t k s q → Comes c t k s r → q ≡ r
+pub comes-one : (c : Context) (t : List ℕ) (k : Clause) (s : State) (q r : Found) → Comes c t k s q → Comes c t k s r → q ≡ r
 comes-one c t k s q r v w = v .what ∙ sym (w .what)
 
-module _ (c : ContextColumns) (t : List ℕ) (k : ClauseColumns) where
+module _ (c : Context) (t : List ℕ) (k : Clause) where
   pub runs-one : (n : ℕ) (s : State) (a b : List ℕ) (u v : State) → Runs c t k n s a u → Runs c t k n s b v → (a ≡ b) × (u ≡ v)
   runs-one n s a b u v (stops i x p) (stops j y q) = (refl, refl)
   runs-one n s a b u v (stops i x p) (waits j y r w h) = absurd (stopped-comes c t k x r p w)
@@ -159,4 +162,4 @@ module _ (c : ContextColumns) (t : List ℕ) (k : ClauseColumns) where
         v .stored ∙ ap (λ (l : List ℕ). l ++ drop (length l) lent) (o .0) ∙ sym (w .stored),
       )
 
-pub ruleset mine = (needs, filling-start, filling-step, filling-stop, filling-wait, filling-room)
+pub ruleset mine = (needs, filling-start, filling-step, filling-fits, filling-stop, filling-wait, filling-room)

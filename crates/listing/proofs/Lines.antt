@@ -1,21 +1,26 @@
 -- The line that comes at a state: the ways out of the functions that ask for it, tell it and store it.
---     lent-again                                what is lent, with what is known afterwards
---     first-answers, next-answers               what the searches answer
+--     lent-again, lent-sound, lent-knows        what is lent, with what is known afterwards
+--     sound-fitted                              what is laid out is within the limits
 --     told-breach, told-clear, told-unfit       the line of a breach, the last line, and no line
 --     line-start, line-after, line-done         what comes at each stage
 --     Copying                                   some bytes of a line are stored
 -- Assumes nothing.
+use mathlib.Core.Bool.{Bool, true, false}
 use mathlib.Core.List.{List, [], _∷_, _++_, map}
 use mathlib.Core.Path.{_≡_, refl, sym, ap, ap₂, subst, _∙_}
-use Prim.Native.Nat.{ℕ, _+_, _-_, _≤_, _<_}
+use Prim.Native.Nat.{ℕ, zero, suc, _+_, _-_, _≤_, _<_}
 use native.Mathlib.Numerals.{add-one}
 use native.Mathlib.Omega.{arith}
 use borrow.Author.Needs.{needs}
+use borrow.Author.Tests.{eqb-true}
+use lib.Dec.{eqb}
 use lib.ListN.{length, getD, set, take, replicate}
 use lib.Seq.{sets, length-sets, take-suc, length-take-le, take-append-seam}
+use Rattle.meaning.specs.Context.{Context}
 use Rattle.meaning.specs.Equality.{repAt}
-use Rattle.meaning.specs.Rules.{variables, Found, found, nothing, First, Before, Below, rangeOf}
-use Rattle.meaning.specs.Columns.{contextFrom}
+use Rattle.meaning.specs.Formed.{AllPlaced, NamesAll}
+use Rattle.meaning.specs.Rules.{Pattern, variable, apply, Clause, variables, Found, found, nothing, First, Before, Below, rangeOf}
+use Rattle.meaning.specs.Columns.{argsAt, contextFrom, patternOf, patternsFrom, clauseFrom}
 use Rattle.meaning.specs.Replies.{breach, none, printed, placesOf}
 use Rattle.meaning.specs.Following.{widerBy}
 use Rattle.meaning.proofs.Table.{length-terms}
@@ -23,45 +28,80 @@ use Rattle.meaning.proofs.Lists.{below-wider}
 use Rattle.meaning.proofs.Pruned.{Sought}
 use Rattle.meaning.proofs.Finds.{starts-below}
 use Rattle.meaning.proofs.ListingNext.{first-sought, next-first}
-use Rattle.meaning.proofs.Built.{length-rows}
-use Rattle.ledger.specs.declared.ContextColumns.{ContextColumns}
-use Rattle.ledger.specs.declared.ClauseColumns.{ClauseColumns}
+use Rattle.meaning.proofs.Built.{length-rows, length-patterns}
+use Rattle.runs.specs.Limits.{mostRows, mostVariables}
 use Rattle.differing.specs.Knowing.{Knows}
 use Rattle.search.specs.Hunting.{answerOf}
-use Rattle.search.specs.Finding as F
-use Rattle.search.specs.Finding.{foundBy, laterBy, FindsIn, NextIn}
+use Rattle.search.specs.Finding.{foundBy, laterBy}
 use Rattle.search.specs.declared.Kind.{Kind}
 use Rattle.search.specs.declared.Kind.the-variants as S
 use Rattle.search.specs.declared.Reply.{Reply}
-use Rattle.prepared.specs.Claims.{said, asked}
+use Rattle.hunting.specs.Laid.{contextIn, ruleIn, Sound}
+use Rattle.hunting.specs.declared.Laid.{Laid}
 use Rattle.reply_lines.specs.Pieces.{low8}
 use Rattle.reply_lines.specs.Prints.{Prints}
 use Rattle.reply_lines.proofs.Stores.{sets-append}
 use Rattle.listing.specs.declared.Stage.the-variants.{Start, After, Done}
 use Rattle.listing.specs.declared.State.{State}
 use Rattle.listing.specs.declared.Entry.{Entry}
-use Rattle.listing.specs.Filling.{Fitted, Lent, stateAfter, comesBy, done, unfit}
-use Rattle.listing.specs.Entries.{Answered, fits, unfits, Tells, EntryAt, line, stop, Lined}
+use Rattle.listing.specs.Filling.{Fitted, Lent, stateAfter, comesBy}
+use Rattle.listing.specs.Entries.{Tells, EntryAt, line, stop, Lined}
 
--- ---- the searches
+-- ---- what is lent
 
-pub lent-again : (c : ContextColumns) (t busy known new : List ℕ) → Lent c t busy known → Knows (said c) new → Lent c t busy new
-lent-again c t busy known new w k = record { lends = w .lends; knows = k }
+pub lent-again : (l : Laid) (known new : List ℕ) → Lent l known → Knows (contextIn l) new → Lent l new
+lent-again l known new w k = record { sound = w .sound; knows = k }
 
-module _ (c : ContextColumns) (t : List ℕ) (k : ClauseColumns) where
-  pub first-answers : (r : Reply)
-      → FindsIn (c .symbols) (c .counts) (c .args) (c .rows) (c .kinds) (c .lefts) (c .rights) (c .statements) t (k .kinds) (k .heads) (k .counts) (k .args) (k .patterns)
-      (k .signs) (k .lefts) (k .rights) (k .literals) r
-      → Answered c k (foundBy (said c) t (asked k)) r
-  first-answers r (F.fits p q) = fits (record { context = p; clause = q })
-  first-answers r (F.unfits n) = unfits (λ w. n (w .context) (w .clause))
+pub lent-sound : (l : Laid) (known : List ℕ) → Lent l known → Sound l
+lent-sound l known w = w .sound
 
-  pub next-answers : (after : List ℕ) (r : Reply)
-      → NextIn (c .symbols) (c .counts) (c .args) (c .rows) (c .kinds) (c .lefts) (c .rights) (c .statements) t (k .kinds) (k .heads) (k .counts) (k .args)
-      (k .patterns) (k .signs) (k .lefts) (k .rights) (k .literals) after r
-      → Answered c k (laterBy (said c) t (asked k) after) r
-  next-answers after r (F.next-fits p q) = fits (record { context = p; clause = q })
-  next-answers after r (F.next-unfits n) = unfits (λ w. n (w .context) (w .clause))
+pub lent-knows : (l : Laid) (known : List ℕ) → Lent l known → Knows (contextIn l) known
+lent-knows l known w = w .knows
+
+-- what is laid out is within the limits
+variables-snoc : (l : List Pattern) (p : Pattern) → variables l ≤ 4 → variables (p ∷ []) ≤ 4 → variables (l ++ (p ∷ [])) ≤ 4
+unfolding variables
+variables-snoc [] p h g = g
+variables-snoc (variable v ∷ l) p h g = omega (arith, variables-snoc l p (omega arith) g)
+variables-snoc (apply f a ∷ l) p h g = variables-snoc l p h g
+
+pattern-few : (kind head : ℕ) (l : List ℕ) → (kind ≡ 4 → head < 4) → variables (patternOf kind head l ∷ []) ≤ 4
+unfolding patternOf variables
+pattern-few kind head l h = go (eqb kind 4) refl
+  where
+    go : (b : Bool) → eqb kind 4 ≡ b → variables (patternOf kind head l ∷ []) ≤ 4
+    go true e = rw (e, patternOf) (omega (arith, h (eqb-true kind 4 e)))
+    go false e = rw (e, patternOf) (omega arith)
+
+patterns-few : (kinds heads counts args : List ℕ) (n : ℕ) → ((i : ℕ) → i < n → getD kinds i 0 ≡ 4 → getD heads i 0 < 4)
+    → variables (patternsFrom kinds heads counts args n) ≤ 4
+unfolding patternsFrom variables
+patterns-few kinds heads counts args zero h = omega arith
+patterns-few kinds heads counts args (suc n) h =
+    variables-snoc (patternsFrom kinds heads counts args n) (patternOf (getD kinds n 0) (getD heads n 0) (argsAt counts args n))
+    (patterns-few kinds heads counts args n (λ i l. h i (omega arith)))
+    (pattern-few (getD kinds n 0) (getD heads n 0) (argsAt counts args n) (h n (omega arith)))
+
+module _ (l : Laid) (s : Sound l) where
+  rule-few : variables (ruleIn l .patterns) ≤ mostVariables
+  unfolding clauseFrom
+  rule-few =
+      patterns-few (l .rule .kinds) (l .rule .heads) (l .rule .counts) (l .rule .args) (l .rule .patterns) (s .rule .fit .variables-few)
+
+  rows-long : length (contextIn l .rows) ≤ mostRows
+  unfolding contextFrom
+  rows-long = omega (arith, length-rows (l .context .symbols) (l .context .counts) (l .context .args) (l .context .rows), s .context .fit .rows-few)
+
+  names : NamesAll (length (ruleIn l .patterns)) (ruleIn l .literals)
+  unfolding clauseFrom
+  names = rw (length-patterns (l .rule .kinds) (l .rule .heads) (l .rule .counts) (l .rule .args) (l .rule .patterns)) (s .rule .fit .named)
+
+  places : AllPlaced 0 (ruleIn l .patterns)
+  unfolding clauseFrom
+  places = s .rule .fit .placed
+
+  pub sound-fitted : Fitted (contextIn l) (ruleIn l)
+  sound-fitted = record { formed = record { fit = s .context .fit .fit; placed = places; named = names }; rows-few = rows-long; variables-few = rule-few }
 
 -- ---- an answer as a line
 
@@ -84,50 +124,56 @@ low-bytes [] b = refl
 low-bytes (x ∷ a) b = ap₂ _∷_ (omega (arith, b .0)) (low-bytes a (b .1))
 
 -- what is found is what is sought
-module _ (c : ContextColumns) (t : List ℕ) (k : ClauseColumns) where
+module _ (c : Context) (t : List ℕ) (k : Clause) where
   abbrev So : List ℕ → Type 0
-  So = Sought (widerBy (said c)) (said c .rows) (repAt t) 65536 (asked k)
+  So = Sought (widerBy c) (c .rows) (repAt t) 65536 k
 
-  pub found-sought : (a : List ℕ) → foundBy (said c) t (asked k) ≡ found a → So a
-  found-sought a e = subst (First So) e (first-sought (widerBy (said c)) (said c .rows) (repAt t) 65536 (asked k)) .0
+  pub found-sought : (a : List ℕ) → foundBy c t k ≡ found a → So a
+  found-sought a e = subst (First So) e (first-sought (widerBy c) (c .rows) (repAt t) 65536 k) .0
 
-  pub next-sought : (after a : List ℕ) → laterBy (said c) t (asked k) after ≡ found a → So a
-  next-sought after a e = subst (First (λ b. So b × Before (take (variables (asked k .patterns)) after) b)) e (next-first (widerBy (said c)) (said c .rows) (repAt t) 65536 (asked k) after) .0 .0
+  pub next-sought : (after a : List ℕ) → laterBy c t k after ≡ found a → So a
+  next-sought after a e = subst (First (λ b. So b × Before (take (variables (k .patterns)) after) b)) e (next-first (widerBy c) (c .rows) (repAt t) 65536 k after) .0 .0
 
 -- rows that were found are bytes
-module _ (c : ContextColumns) (t : List ℕ) (k : ClauseColumns) (f : Fitted c k) where
-  rows-few : length (rangeOf (said c)) ≤ 256
-  unfolding contextFrom
-  rows-few = omega (arith, length-terms (said c .rows), length-rows (c .symbols) (c .counts) (c .args) (c .rows), f .context .rows-few)
+module _ (c : Context) (t : List ℕ) (k : Clause) (f : Fitted c k) where
+  range-few : length (rangeOf c) ≤ 256
+  range-few = omega (arith, length-terms (c .rows), f .rows-few)
 
-  sought-low : (a : List ℕ) → Sought (widerBy (said c)) (said c .rows) (repAt t) 65536 (asked k) a → Below 256 a
-  sought-low a w = below-wider (length (rangeOf (said c))) 256 a rows-few (starts-below (said c) (repAt t) a (w .1))
+  sought-low : (a : List ℕ) → Sought (widerBy c) (c .rows) (repAt t) 65536 k a → Below 256 a
+  sought-low a w = below-wider (length (rangeOf c)) 256 a range-few (starts-below c (repAt t) a (w .1))
 
-module _ (c : ContextColumns) (t : List ℕ) (k : ClauseColumns) (s : State) (e : Entry) where
-  line-found : (x : Found) → (Fitted c k → (a : List ℕ) → x ≡ found a → Below 256 a) → (s .stage ≡ Done → ⊥)
-      → x ≡ comesBy (said c) t (asked k) (s .stage) (s .places)
-      → (r : Reply) → Answered c k x r → Tells (r .kind) (r .places) e → EntryAt c t k s e
+module _ (c : Context) (t : List ℕ) (k : Clause) (f : Fitted c k) (s : State) (e : Entry) where
+  line-found : (x : Found) → ((a : List ℕ) → x ≡ found a → Below 256 a) → (s .stage ≡ Done → ⊥) → x ≡ comesBy c t k (s .stage) (s .places)
+      → Tells (answerOf x .kind) (answerOf x .places) e → EntryAt c t k s e
   unfolding answerOf placesOf
-  line-found (found a) low g q r (fits f) w =
+  line-found (found a) low g q w =
       let b : map low8 (take (length a) (a ++ replicate (4 - length a) 255)) ≡ a =
-      ap (map low8) (take-append-seam a (replicate (4 - length a) 255)) ∙ low-bytes a (low f a refl) in
+      ap (map low8) (take-append-seam a (replicate (4 - length a) 255)) ∙ low-bytes a (low a refl) in
       line (found a) (record { fitted = f; going = g; what = q }) (rw b at (w .line)) (w .next)
-  line-found nothing low g q r (fits f) w = line nothing (record { fitted = f; going = g; what = q }) (w .line) (w .next)
-  line-found x low g q r (unfits n) w = stop (unfit n) (w .line .size)
+  line-found nothing low g q w = line nothing (record { fitted = f; going = g; what = q }) (w .line) (w .next)
 
-  pub line-start : s .stage ≡ Start → (r : Reply) → Answered c k (foundBy (said c) t (asked k)) r → Tells (r .kind) (r .places) e → EntryAt c t k s e
+-- what a search answers, told as a line
+module _ (l : Laid) (known : List ℕ) (lent : Lent l known) (s : State) (e : Entry) (r : Reply) where
+  pub line-start : s .stage ≡ Start → r ≡ answerOf (foundBy (contextIn l) (l .table) (ruleIn l)) → Tells (r .kind) (r .places) e
+      → EntryAt (contextIn l) (l .table) (ruleIn l) s e
   unfolding comesBy
-  line-start q r =
-      line-found (foundBy (said c) t (asked k)) (λ f a p. sought-low c t k f a (found-sought c t k a p)) (λ d. absurd (let z : _≡_ {A = ℕ} 0 1 = cc in omega arith)) (rw q refl) r
+  line-start q a w =
+      line-found (contextIn l) (l .table) (ruleIn l) (sound-fitted l (lent .sound)) s e (foundBy (contextIn l) (l .table) (ruleIn l))
+      (λ b p. sought-low (contextIn l) (l .table) (ruleIn l) (sound-fitted l (lent .sound)) b (found-sought (contextIn l) (l .table) (ruleIn l) b p))
+      (λ d. absurd (let z : _≡_ {A = ℕ} 0 1 = cc in omega arith)) (rw q refl)
+      (subst (λ (y : Reply). Tells (y .kind) (y .places) e) a w)
 
-  pub line-after : s .stage ≡ After → (r : Reply) → Answered c k (laterBy (said c) t (asked k) (s .places)) r → Tells (r .kind) (r .places) e
-      → EntryAt c t k s e
+  pub line-after : s .stage ≡ After → r ≡ answerOf (laterBy (contextIn l) (l .table) (ruleIn l) (s .places)) → Tells (r .kind) (r .places) e
+      → EntryAt (contextIn l) (l .table) (ruleIn l) s e
   unfolding comesBy
-  line-after q r =
-      line-found (laterBy (said c) t (asked k) (s .places)) (λ f a p. sought-low c t k f a (next-sought c t k (s .places) a p)) (λ d. absurd (let z : _≡_ {A = ℕ} 0 1 = cc in omega arith)) (rw q refl) r
+  line-after q a w =
+      line-found (contextIn l) (l .table) (ruleIn l) (sound-fitted l (lent .sound)) s e (laterBy (contextIn l) (l .table) (ruleIn l) (s .places))
+      (λ b p. sought-low (contextIn l) (l .table) (ruleIn l) (sound-fitted l (lent .sound)) b (next-sought (contextIn l) (l .table) (ruleIn l) (s .places) b p))
+      (λ d. absurd (let z : _≡_ {A = ℕ} 0 1 = cc in omega arith)) (rw q refl)
+      (subst (λ (y : Reply). Tells (y .kind) (y .places) e) a w)
 
-  pub line-done : s .stage ≡ Done → Tells S.Unfit (s .places) e → EntryAt c t k s e
-  line-done q w = stop (done q) (w .line .size)
+pub line-done : (c : Context) (t : List ℕ) (k : Clause) (s : State) (e : Entry) → s .stage ≡ Done → Tells S.Unfit (s .places) e → EntryAt c t k s e
+line-done c t k s e q w = stop (record { done = q }) (w .line .size)
 
 -- ---- bytes are stored
 
@@ -168,4 +214,4 @@ pub copying-done : {bytes lent after : List ℕ} {len at i : ℕ} → Copying by
 copying-done {bytes} {lent} {after} {len} {at} {i} f h =
     let e : i ≡ len = omega (arith, f .within) in f .stored ∙ ap (λ (j : ℕ). sets lent at (take j bytes)) e
 
-pub ruleset mine = (needs, lent-again, first-answers, next-answers, told-breach, told-clear, told-unfit, line-start, line-after, line-done, copying-start, copying-step, copying-done)
+pub ruleset mine = (needs, lent-again, lent-sound, lent-knows, told-breach, told-clear, told-unfit, line-start, line-after, line-done, copying-start, copying-step, copying-done)

@@ -9,50 +9,24 @@ use mathlib.Core.List.{List, [], _∷_, _++_, append-nil, append-assoc}
 use mathlib.Core.Path.{_≡_, refl, sym, ap, ap₂, subst, _∙_}
 use Prim.Native.Nat.{ℕ, zero, suc, _+_, _-_, _≤_, _<_}
 use native.Mathlib.Omega.{arith}
-use lib.Dec.{eqb, leb}
-use borrow.Author.Tests.{eqb-true, leb-true, leb-false}
-use lib.ListN.{length, getD, take, replicate}
+use lib.Dec.{leb}
+use borrow.Author.Tests.{leb-true, leb-false}
+use lib.ListN.{length, take, replicate}
 use lib.Seq.{take-at}
-use Rattle.meaning.specs.Rules.{Pattern, variable, apply, variables, Found, found, nothing}
-use Rattle.meaning.specs.Columns.{argsAt, patternOf, patternsFrom, clauseFrom}
+use Rattle.meaning.specs.Context.{Context}
+use Rattle.meaning.specs.Rules.{Clause, variables, Found, found, nothing}
 use Rattle.meaning.specs.Replies.{breach, none, replyOf, placesOf, printed, codeOf, valuesOf}
 use Rattle.meaning.specs.Listing.{Goes, ends, goes, linesOf}
-use Rattle.ledger.specs.declared.ContextColumns.{ContextColumns}
-use Rattle.ledger.specs.declared.ClauseColumns.{ClauseColumns}
 use Rattle.search.specs.Finding.{foundBy, laterBy}
-use Rattle.prepared.specs.Claims.{said, asked}
 use Rattle.reply_lines.proofs.Lines.{length-frame}
 use Rattle.listing.specs.declared.Stage.{Stage}
 use Rattle.listing.specs.declared.Stage.the-variants.{Start, After, Done}
 use Rattle.listing.specs.declared.State.{State}
-use Rattle.listing.specs.Filling.{Fitted, startState, stateAfter, comesBy, Comes, done, Runs, stops, waits, writes, Pieces, over, piece}
+use Rattle.listing.specs.Filling.{Fitted, startState, stateAfter, comesBy, Comes, Runs, stops, waits, writes, Pieces, over, piece}
 use Rattle.listing.proofs.Lines.{found-sought, next-sought}
 use Rattle.listing.proofs.Filling.{stopped-comes, comes-one}
 
 -- ---- no line is longer than that of four rows
-
-variables-snoc : (l : List Pattern) (p : Pattern) → variables l ≤ 4 → variables (p ∷ []) ≤ 4 → variables (l ++ (p ∷ [])) ≤ 4
-unfolding variables
-variables-snoc [] p h g = g
-variables-snoc (variable v ∷ l) p h g = omega (arith, variables-snoc l p (omega arith) g)
-variables-snoc (apply f a ∷ l) p h g = variables-snoc l p h g
-
-pattern-few : (kind head : ℕ) (l : List ℕ) → (kind ≡ 4 → head < 4) → variables (patternOf kind head l ∷ []) ≤ 4
-unfolding patternOf variables
-pattern-few kind head l h = go (eqb kind 4) refl
-  where
-    go : (b : Bool) → eqb kind 4 ≡ b → variables (patternOf kind head l ∷ []) ≤ 4
-    go true e = rw (e, patternOf) (omega (arith, h (eqb-true kind 4 e)))
-    go false e = rw (e, patternOf) (omega arith)
-
-patterns-few : (kinds heads counts args : List ℕ) (n : ℕ) → ((i : ℕ) → i < n → getD kinds i 0 ≡ 4 → getD heads i 0 < 4)
-    → variables (patternsFrom kinds heads counts args n) ≤ 4
-unfolding patternsFrom variables
-patterns-few kinds heads counts args zero h = omega arith
-patterns-few kinds heads counts args (suc n) h =
-    variables-snoc (patternsFrom kinds heads counts args n) (patternOf (getD kinds n 0) (getD heads n 0) (argsAt counts args n))
-    (patterns-few kinds heads counts args n (λ i l. h i (omega arith)))
-    (pattern-few (getD kinds n 0) (getD heads n 0) (argsAt counts args n) (h n (omega arith)))
 
 breach-short : (a : List ℕ) → length a ≤ 4 → length (printed (breach a)) ≤ 13
 unfolding printed codeOf valuesOf
@@ -67,16 +41,16 @@ pub placed-front : {n : ℕ} (a : List ℕ) → length a ≡ n → take n (place
 unfolding placesOf
 placed-front {n} a h = take-at a (replicate (4 - length a) 255) n h
 
-module _ (c : ContextColumns) (t : List ℕ) (k : ClauseColumns) where
+module _ (c : Context) (t : List ℕ) (k : Clause) where
   -- what is next, as the state after a breach has it
   abbrev pub onward : List ℕ → Found
-  onward a = laterBy (said c) t (asked k) (placesOf (breach a))
+  onward a = laterBy c t k (placesOf (breach a))
 
   after-comes : (a : List ℕ) → Fitted c k → Comes c t k (stateAfter (found a)) (onward a)
   unfolding comesBy
   after-comes a f = record { fitted = f; going = λ e. absurd (let z : _≡_ {A = ℕ} 0 1 = cc in omega arith); what = refl }
 
-  pub start-comes : Fitted c k → Comes c t k startState (foundBy (said c) t (asked k))
+  pub start-comes : Fitted c k → Comes c t k startState (foundBy c t k)
   unfolding comesBy
   start-comes f = record { fitted = f; going = λ e. absurd (let z : _≡_ {A = ℕ} 0 1 = cc in omega arith); what = refl }
 
@@ -146,7 +120,7 @@ module _ (c : ContextColumns) (t : List ℕ) (k : ClauseColumns) where
       record {
         bytes = printed none ++ [];
         last = stateAfter nothing;
-        run = writes n s nothing w h [] (stateAfter nothing) (stops (n - length (printed none)) (stateAfter nothing) (done refl));
+        run = writes n s nothing w h [] (stateAfter nothing) (stops (n - length (printed none)) (stateAfter nothing) (record { done = refl }));
         shorter = none-left refl;
       }
   run-on n s r l w (goes a d g) h = go (leb (length (printed (replyOf (onward a)))) (n - length (printed (breach a)))) refl (run-on (n - length (printed (breach a))) (stateAfter (found a)) (onward a) d (after-comes a (w .fitted)) g)
@@ -177,20 +151,19 @@ module _ (c : ContextColumns) (t : List ℕ) (k : ClauseColumns) where
             shorter = fewer (onward a) d (after-comes a (w .fitted)) g (omega arith);
           }
 
-  comes-sought : (s : State) (a : List ℕ) → Comes c t k s (found a) → length a ≡ variables (asked k .patterns)
+  comes-sought : (s : State) (a : List ℕ) → Comes c t k s (found a) → length a ≡ variables (k .patterns)
   unfolding comesBy
   comes-sought s a w = go (s .stage) refl
     where
-      go : (x : Stage) → s .stage ≡ x → length a ≡ variables (asked k .patterns)
+      go : (x : Stage) → s .stage ≡ x → length a ≡ variables (k .patterns)
       go Start e = found-sought c t k a (sym (rw e at (w .what))) .0
       go After e = next-sought c t k (s .places) a (sym (rw e at (w .what))) .0
       go Done e = absurd (w .going e)
 
   pub line-short : (s : State) (r : Found) → Comes c t k s r → length (printed (replyOf r)) ≤ 13
-  unfolding clauseFrom
   line-short s nothing w = none-short
   line-short s (found a) w =
-      breach-short a (omega (arith, comes-sought s a w, patterns-few (k .kinds) (k .heads) (k .counts) (k .args) (k .patterns) (w .fitted .clause .variables-few)))
+      breach-short a (omega (arith, comes-sought s a w, w .fitted .variables-few))
 
   pub pieces-end : (room : ℕ → ℕ) → ((i : ℕ) → 13 ≤ room i) → (fuel : ℕ) (l : List (List ℕ)) → length l < fuel
       → (i : ℕ) (s : State) (r : Found) → Comes c t k s r → Goes onward r l → (out : List ℕ) × Pieces c t k room i s out

@@ -1,8 +1,7 @@
 -- The pieces are the program's whole output.
---     fitted-formed               what well-formed columns say is well-formed
 --     every-pieces, every-ends    over any table: the pieces are the lines of all that is sought, and with rooms of 13 bytes or more they end
 --     list-pieces                 over a table of representatives, where the context does not contradict itself: the lines of the list
---     text-pieces                 over the columns of a text that the finder answers: what the program has to print
+--     text-pieces                 for a text that the finder answers: what the program has to print
 -- Assumes nothing.
 use mathlib.Core.List.{List}
 use mathlib.Core.Path.{_≡_, sym, ap, subst, subst₂, _∙_}
@@ -12,65 +11,45 @@ use lib.ListN.{length}
 use Rattle.meaning.specs.Context.{Context}
 use Rattle.meaning.specs.Equality.{repAt, Consistent, Representatives}
 use Rattle.meaning.specs.Rules.{Clause, Found}
-use Rattle.meaning.specs.Formed.{Formed, NamesAll}
-use Rattle.meaning.specs.Columns.{contextFrom, literalsFrom, clauseFrom}
 use Rattle.meaning.specs.Text.{narrow, Read, taken, read}
 use Rattle.meaning.specs.Replies.{breach, replyOf, placesOf, inputLimit, Replies}
 use Rattle.meaning.specs.Listing.{Lists, Goes, linesOf, listed, lists, printedListing, BreachesPrints, replies}
 use Rattle.meaning.specs.Following.{widerBy}
 use Rattle.meaning.proofs.ListingNext.{everyBy, every-goes, every-lists}
 use Rattle.meaning.proofs.ListingPrints.{lists-one}
-use Rattle.meaning.proofs.Built.{length-rows, length-patterns}
-use Rattle.ledger.specs.declared.ContextColumns.{ContextColumns}
-use Rattle.ledger.specs.declared.ClauseColumns.{ClauseColumns}
 use Rattle.search.specs.Finding.{foundBy}
-use Rattle.prepared.specs.Claims.{said, asked}
 use Rattle.listing.specs.Filling.{Fitted, startState, Pieces}
 use Rattle.listing.proofs.Pieces.{onward, placed-front, start-comes, pieces-lines, pieces-end}
 
 -- ---- over any table
 
-module _ (c : ContextColumns) (t : List ℕ) (k : ClauseColumns) where
+module _ (c : Context) (t : List ℕ) (k : Clause) where
   abbrev pub allSought : List (List ℕ)
-  allSought = everyBy (widerBy (said c)) (said c .rows) (repAt t) 65536 (asked k)
+  allSought = everyBy (widerBy c) (c .rows) (repAt t) 65536 k
 
-  goes-sought : Goes (onward c t k) (foundBy (said c) t (asked k)) allSought
-  goes-sought = every-goes (widerBy (said c)) (said c .rows) (repAt t) 65536 (asked k) (λ a. placesOf (breach a)) placed-front
+  goes-sought : Goes (onward c t k) (foundBy c t k) allSought
+  goes-sought = every-goes (widerBy c) (c .rows) (repAt t) 65536 k (λ a. placesOf (breach a)) placed-front
 
   module _ (fitted : Fitted c k) (room : ℕ → ℕ) where
     pub every-pieces : (i : ℕ) (out : List ℕ) → Pieces c t k room i startState out → out ≡ linesOf allSought
-    every-pieces i out p = pieces-lines c t k room i startState out (foundBy (said c) t (asked k)) allSought p (start-comes c t k fitted) goes-sought
+    every-pieces i out p = pieces-lines c t k room i startState out (foundBy c t k) allSought p (start-comes c t k fitted) goes-sought
 
     pub every-ends : ((i : ℕ) → 13 ≤ room i) → (out : List ℕ) × Pieces c t k room 0 startState out
-    every-ends h = pieces-end c t k room h (suc (length allSought)) allSought (omega arith) 0 startState (foundBy (said c) t (asked k)) (start-comes c t k fitted) goes-sought
+    every-ends h = pieces-end c t k room h (suc (length allSought)) allSought (omega arith) 0 startState (foundBy c t k) (start-comes c t k fitted) goes-sought
 
 -- ---- over a table of representatives
 
-pub fitted-formed : (c : ContextColumns) (k : ClauseColumns) → Fitted c k → Formed (said c) (asked k)
-unfolding clauseFrom
-fitted-formed c k f =
-    record {
-      fit = f .context .fit;
-      placed = f .clause .placed;
-      named =
-          subst (λ (n : ℕ). NamesAll n (literalsFrom (k .signs) (k .lefts) (k .rights) (k .literals))) (sym (length-patterns (k .kinds) (k .heads) (k .counts) (k .args) (k .patterns)))
-          (f .clause .named);
-    }
+module _ (c : Context) (t : List ℕ) (k : Clause) (fitted : Fitted c k) (free : Consistent c)
+    (represents : Representatives c (repAt t)) where
+  pub sought-lists : Lists c k (allSought c t k)
+  sought-lists = every-lists c k (fitted .formed) free (repAt t) represents 65536 (omega (arith, fitted .rows-few))
 
-module _ (c : ContextColumns) (t : List ℕ) (k : ClauseColumns) (fitted : Fitted c k) (free : Consistent (said c))
-    (represents : Representatives (said c) (repAt t)) where
-  pub sought-lists : Lists (said c) (asked k) (allSought c t k)
-  unfolding contextFrom
-  sought-lists =
-      every-lists (said c) (asked k) (fitted-formed c k fitted) free (repAt t) represents 65536
-      (omega (arith, length-rows (c .symbols) (c .counts) (c .args) (c .rows), fitted .context .rows-few))
-
-  pub list-pieces : (l : List (List ℕ)) → Lists (said c) (asked k) l → (room : ℕ → ℕ) (i : ℕ) (out : List ℕ) → Pieces c t k room i startState out → out ≡ linesOf l
+  pub list-pieces : (l : List (List ℕ)) → Lists c k l → (room : ℕ → ℕ) (i : ℕ) (out : List ℕ) → Pieces c t k room i startState out → out ≡ linesOf l
   list-pieces l p room i out q =
-      every-pieces c t k fitted room i out q ∙ ap linesOf (lists-one (said c) (asked k) (allSought c t k) l sought-lists p)
+      every-pieces c t k fitted room i out q ∙ ap linesOf (lists-one c k (allSought c t k) l sought-lists p)
 
-  -- ---- for a text whose context and clause the columns say, and that the finder answers by a breach or none
-  pub text-pieces : (input : List ℕ) → length input ≤ inputLimit → (s : Read) → read narrow input ≡ taken s → said c ≡ s .ledger .context → asked k ≡ s .clause
+  -- ---- for a text that says the context and the rule, and that the finder answers by a breach or none
+  pub text-pieces : (input : List ℕ) → length input ≤ inputLimit → (s : Read) → read narrow input ≡ taken s → c ≡ s .ledger .context → k ≡ s .clause
       → (r : Found) → Replies narrow input (replyOf r) → (room : ℕ → ℕ) (i : ℕ) (out : List ℕ) → Pieces c t k room i startState out
       → BreachesPrints narrow input out
   unfolding printedListing

@@ -1,19 +1,23 @@
 // The list of all breaches whose rows are representatives, written piece by piece into a lent space.
 pub mod opening;
 
-use ledger::ClauseColumns;
-use ledger::ContextColumns;
+use casts::usize_of_u8;
+use hunting::Laid;
+use hunting::PAIRS;
+use hunting::hunt_after_with;
+use hunting::hunt_with;
 use reply_lines::breach_line;
 use reply_lines::none_line;
+use runs::limits::UNUSED;
+use runs::limits::VARIABLES;
 use search::Kind;
 ghost use mathlib.Core.Path.{_≡_};
 ghost use lib.ListN.{take};
 ghost use lib.Seq.{sets};
 ghost use Rattle.meaning.specs.Rules.{nothing};
-ghost use Rattle.search.specs.Finding.{foundBy, laterBy};
-ghost use Rattle.prepared.specs.Claims.{said, asked};
+ghost use Rattle.hunting.specs.Laid.{contextIn, ruleIn};
 ghost use Rattle.listing.specs.Filling.{Lent, doneBy, startState, stateAfter, Fills};
-ghost use Rattle.listing.specs.Entries.{Answered, Tells, EntryAt, Lined};
+ghost use Rattle.listing.specs.Entries.{Tells, EntryAt, Lined};
 
 // At the start of the list, after a breach, or past the end.
 pub enum Stage {
@@ -25,7 +29,7 @@ pub enum Stage {
 // The rows of the breach stand beside the stage, unused places 255.
 pub struct State {
     pub stage: Stage,
-    pub places: [u16; 4],
+    pub places: [u16; VARIABLES],
 }
 
 // How many bytes were written, and where the list goes on.
@@ -46,7 +50,7 @@ pub fn start() -> State
 {
     State {
         stage: Stage::Start,
-        places: [255; 4],
+        places: [UNUSED; VARIABLES],
     }
 }
 
@@ -67,107 +71,17 @@ fn done() -> State
 {
     State {
         stage: Stage::Done,
-        places: [255; 4],
+        places: [UNUSED; VARIABLES],
     }
 }
 
-fn wide(x: u8) -> usize
-    ensures { λ r. ⌜ r ≡ x ⌝ }
-{
-    x as usize
-}
-
-// The first breach.
-fn first(
-    c: ContextColumns,
-    table: [u16; 255],
-    k: ClauseColumns,
-    busy: &[u8; 255],
-    known: &mut [u8; 65025],
-) -> search::Reply
-    requires { ⌜ Lent c table (now busy) (now known) ⌝ }
-    ensures { λ r. ⌜ Answered c k (foundBy (said c) table (asked k)) r ⌝ }
-    ensures { λ _. ⌜ Lent c table (now (busy .entry)) (now (known .exit)) ⌝ }
-{
-    let rows = c.rows;
-    let statements = c.statements;
-    let patterns = k.patterns;
-    let literals = k.literals;
-    search::find_with(
-        &c.symbols,
-        &c.counts,
-        &c.args,
-        rows,
-        &c.kinds,
-        &c.lefts,
-        &c.rights,
-        statements,
-        &table,
-        &table,
-        busy,
-        known,
-        &k.kinds,
-        &k.heads,
-        &k.counts,
-        &k.args,
-        patterns,
-        &k.signs,
-        &k.lefts,
-        &k.rights,
-        literals,
-    )
-}
-
-// The first breach after an assignment.
-fn following(
-    c: ContextColumns,
-    table: [u16; 255],
-    k: ClauseColumns,
-    busy: &[u8; 255],
-    known: &mut [u8; 65025],
-    after: [u16; 4],
-) -> search::Reply
-    requires { ⌜ Lent c table (now busy) (now known) ⌝ }
-    ensures { λ r. ⌜ Answered c k (laterBy (said c) table (asked k) after) r ⌝ }
-    ensures { λ _. ⌜ Lent c table (now (busy .entry)) (now (known .exit)) ⌝ }
-{
-    let rows = c.rows;
-    let statements = c.statements;
-    let patterns = k.patterns;
-    let literals = k.literals;
-    search::next_with(
-        &c.symbols,
-        &c.counts,
-        &c.args,
-        rows,
-        &c.kinds,
-        &c.lefts,
-        &c.rights,
-        statements,
-        &table,
-        &table,
-        busy,
-        known,
-        &k.kinds,
-        &k.heads,
-        &k.counts,
-        &k.args,
-        patterns,
-        &k.signs,
-        &k.lefts,
-        &k.rights,
-        literals,
-        after,
-    )
-}
-
-// The line of a breach, the last line, or none for columns that are not well-formed.
-fn told(kind: Kind, places: [u16; 4]) -> Entry
+// The line of a breach, the last line, or none past the end.
+fn told(kind: Kind, places: [u16; VARIABLES]) -> Entry
     ensures { λ e. ⌜ Tells kind places e ⌝ }
 {
     match kind {
         Kind::Breach(n) => {
-            let line = breach_line(wide(n), places);
+            let line = breach_line(usize_of_u8(n), places);
             let bytes = line.bytes;
             let len = line.len;
             let next = State {
@@ -194,29 +108,22 @@ fn told(kind: Kind, places: [u16; 4]) -> Entry
     }
 }
 
-fn line_at(
-    c: ContextColumns,
-    table: [u16; 255],
-    k: ClauseColumns,
-    busy: &[u8; 255],
-    known: &mut [u8; 65025],
-    s: State,
-) -> Entry
-    requires { ⌜ Lent c table (now busy) (now known) ⌝ }
-    ensures { λ e. ⌜ EntryAt c table k s e ⌝ }
-    ensures { λ _. ⌜ Lent c table (now (busy .entry)) (now (known .exit)) ⌝ }
+fn line_at(l: Laid, known: &mut [u8; PAIRS], s: State) -> Entry
+    requires { ⌜ Lent l (now known) ⌝ }
+    ensures { λ e. ⌜ EntryAt (contextIn l) (l .table) (ruleIn l) s e ⌝ }
+    ensures { λ _. ⌜ Lent l (now (known .exit)) ⌝ }
 {
     let stage = s.stage;
     let places = s.places;
     match stage {
         Stage::Start => {
-            let r = first(c, table, k, busy, known);
+            let r = hunt_with(l, known);
             let kind = r.kind;
             let rows = r.places;
             told(kind, rows)
         }
         Stage::After => {
-            let r = following(c, table, k, busy, known, places);
+            let r = hunt_after_with(l, known, places);
             let kind = r.kind;
             let rows = r.places;
             told(kind, rows)
@@ -238,23 +145,15 @@ fn put(bytes: [u8; 32], len: usize, space: &mut [u8], at: usize)
 }
 
 // Writes whole lines from a state on, as many as there is room for. What is known of pairs is kept from piece to piece, so that each is asked once.
-pub fn fill(
-    c: ContextColumns,
-    table: [u16; 255],
-    k: ClauseColumns,
-    busy: &[u8; 255],
-    known: &mut [u8; 65025],
-    state: State,
-    space: &mut [u8],
-) -> Filled
-    requires lent { ⌜ Lent c table (now busy) (now known) ⌝ }
-    ensures fills { λ r. ⌜ Fills c table k state (now (space .entry)) r (now (space .exit)) ⌝ }
-    ensures lent { λ _. ⌜ Lent c table (now (busy .entry)) (now (known .exit)) ⌝ }
+pub fn fill(l: Laid, known: &mut [u8; PAIRS], state: State, space: &mut [u8]) -> Filled
+    requires lent { ⌜ Lent l (now known) ⌝ }
+    ensures fills { λ r. ⌜ Fills (contextIn l) (l .table) (ruleIn l) state (now (space .entry)) r (now (space .exit)) ⌝ }
+    ensures lent { λ _. ⌜ Lent l (now (known .exit)) ⌝ }
 {
     let mut used = 0;
     let mut at = state;
     loop {
-        let e = line_at(c, table, k, busy, known, at);
+        let e = line_at(l, known, at);
         let len = e.len;
         if len == 0 {
             let next = done();

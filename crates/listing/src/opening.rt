@@ -2,14 +2,13 @@
 use crate::State;
 use crate::done;
 use crate::start;
-use ledger::ClauseColumns;
-use ledger::ContextColumns;
-use prepared::Answer;
+use hunting::Laid;
 use replies::INPUT_LIMIT;
 use replies::Refusal;
 use reply_lines::Line;
 use reply_lines::no_line;
 use reply_lines::refusal_line;
+use ruling::Answer;
 ghost use mathlib.Core.Path.{_≡_};
 ghost use Rattle.listing.specs.Opening.{limitedBy, Headed, Opens};
 
@@ -23,10 +22,7 @@ struct Head {
 pub struct Opened {
     pub line: Line,
     pub state: State,
-    pub context: ContextColumns,
-    pub clause: ClauseColumns,
-    pub table: [u16; 255],
-    pub busy: [u8; 255],
+    pub laid: Laid,
 }
 
 // Refusal 11 before everything else.
@@ -61,26 +57,18 @@ fn begin(answer: Answer) -> Head
     }
 }
 
-// The columns are the reader's, whatever the answer.
+// Where the reader refuses, it is the empty text that is laid out.
 pub fn open(input: &[u8]) -> Opened
     ensures opens { λ o. ⌜ Opens (now (input .entry)) o ⌝ }
 {
-    let p = prepared::prepare(input);
+    let p = ruling::rule(input);
     let first = p.answer;
     let answer = limit(input.len(), first);
     let h = begin(answer);
     let line = h.line;
     let state = h.state;
-    let context = p.context;
-    let clause = p.clause;
+    let told = p.told;
     let table = p.table;
-    let busy = finder::busy(context, table);
-    Opened {
-        line,
-        state,
-        context,
-        clause,
-        table,
-        busy,
-    }
+    let laid = finder::lay(told, table);
+    Opened { line, state, laid }
 }

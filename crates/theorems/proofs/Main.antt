@@ -17,6 +17,7 @@ use Rattle.reply_lines.specs.declared.Line.{Line}
 use Rattle.printing.specs.Claims.{PrintsFound, PrintsNormal}
 use Rattle.printing.specs.declared.Parts.{Parts}
 use Rattle.printing.proofs.Outputs.{output-prints}
+use Rattle.hunting.specs.Laid.{contextIn, ruleIn}
 use Rattle.listing.specs.Filling.{Pieces}
 use Rattle.listing.specs.Opening as Listing
 use Rattle.listing.specs.declared.opening.Opened.{Opened as ListOpened}
@@ -53,13 +54,13 @@ pub demand-3 : (n : List ℕ → List ℕ → Written × List ℕ) → Normalise
 demand-3 n normalise = right-keeps (normaliserOf n) normalise
 
 -- The list: what `listing::opening::open` and the pieces of `listing::fill` give, joined, is every breach made of representatives, each once and in order, and then 09.
-pub list-prints : (input : List ℕ) (o : ListOpened) → Listing.Opens input o → (room : ℕ → ℕ) (out : List ℕ) → Pieces (o .context) (o .table) (o .clause) room 0 (o .state) out
+pub list-prints : (input : List ℕ) (o : ListOpened) → Listing.Opens input o → (room : ℕ → ℕ) (out : List ℕ) → Pieces (contextIn (o .laid)) (o .laid .table) (ruleIn (o .laid)) room 0 (o .state) out
     → BreachesPrints narrow input (shownIn (o .line) ++ out)
 list-prints = opened-prints
 
 -- And the pieces end, whatever rooms of at least a line they are given.
 pub list-ends : (input : List ℕ) (o : ListOpened) → Listing.Opens input o → (room : ℕ → ℕ) → ((i : ℕ) → 13 ≤ room i)
-    → (out : List ℕ) × Pieces (o .context) (o .table) (o .clause) room 0 (o .state) out
+    → (out : List ℕ) × Pieces (contextIn (o .laid)) (o .laid .table) (ruleIn (o .laid)) room 0 (o .state) out
 list-ends = opened-ends
 
 -- Grounds that `judging::judge` accepts, whoever wrote them, show a breach of the text's rule.

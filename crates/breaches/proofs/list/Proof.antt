@@ -1,5 +1,6 @@
 -- `breaches::list` meets its contract. The invariant: what was handed over so far and what is to come are all. Each piece leaves fewer lines to be written.
 -- Assumes nothing.
+use Rattle.hunting.specs.Laid.{contextIn, ruleIn}
 use Rattle.listing.specs.Filling.{Lent}
 use Rattle.listing.proofs.Ending.{leftOf}
 use Rattle.breaches.proofs.Going.{Listed, mine}
@@ -7,10 +8,10 @@ use Rattle.breaches.proofs.list.Statement.{statement}
 use Rattle.breaches.proofs.list.Tie as tie
 
 abbrev Inv-loop : tie.InvT-loop
-Inv-loop c table k busy known₀ sent₀ state₀ known sent state = Lent c table busy known × Listed c table k state₀ state sent
+Inv-loop l known₀ sent₀ state₀ known sent state = Lent l known × Listed (contextIn l) (l .table) (ruleIn l) state₀ state sent
 
 abbrev μ-loop : tie.MeasureT-loop
-μ-loop c table k busy known₀ sent₀ state₀ known sent state = leftOf c table k state
+μ-loop l known₀ sent₀ state₀ known sent state = leftOf (contextIn l) (l .table) (ruleIn l) state
 
 nothing-requires : tie.Need-nothing-requires Inv-loop μ-loop
 nothing-requires c κs = search mine

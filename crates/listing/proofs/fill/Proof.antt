@@ -4,16 +4,17 @@
 use Prim.Native.Nat.{_-_}
 use native.Mathlib.Omega.{arith}
 use lib.ListN.{length}
+use Rattle.hunting.specs.Laid.{contextIn, ruleIn}
 use Rattle.listing.specs.Filling.{Lent}
 use Rattle.listing.proofs.Filling.{Filling, mine}
 use Rattle.listing.proofs.fill.Statement.{statement}
 use Rattle.listing.proofs.fill.Tie as tie
 
 abbrev Inv-loop : tie.InvT-loop
-Inv-loop c table k busy known₀ space₀ used₀ at₀ known space used at = Lent c table busy known × Filling c table k at₀ space₀ used at space
+Inv-loop l known₀ space₀ used₀ at₀ known space used at = Lent l known × Filling (contextIn l) (l .table) (ruleIn l) at₀ space₀ used at space
 
 abbrev μ-loop : tie.MeasureT-loop
-μ-loop c table k busy known₀ space₀ used₀ at₀ known space used at = length space - used
+μ-loop l known₀ space₀ used₀ at₀ known space used at = length space - used
 
 loop-holds : tie.Need-loop-holds Inv-loop μ-loop
 loop-holds c = (search mine, search mine)
@@ -43,12 +44,7 @@ put-requires : tie.Need-put-requires Inv-loop μ-loop
 put-requires c κs = search mine
 
 add-used : tie.Need-add-used Inv-loop μ-loop
-add-used c =
-    let test = c .before .before .before .before .before in
-    let turn = test .before .before .before .before in
-    let f = turn .loop .inv .1 in
-    let small = turn .before .before .good .1 .1 .1 .1 .1 .1 .0 .0 in
-    omega (arith, f .within, f .long, test .if2 .left, small)
+add-used c = search mine
 
 loop-less : tie.Need-loop-less Inv-loop μ-loop
 loop-less c = search mine

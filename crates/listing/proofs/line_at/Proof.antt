@@ -7,8 +7,8 @@ use Rattle.listing.proofs.line_at.Tie as tie
 enum-told : tie.Need-enum-told
 enum-told c = search mine
 
-first-requires : tie.Need-first-requires
-first-requires c κs = search mine
+hunt-with-requires : tie.Need-hunt-with-requires
+hunt-with-requires c κs = search mine
 
 told-requires : tie.Need-told-requires
 told-requires c κs = search mine
@@ -16,8 +16,8 @@ told-requires c κs = search mine
 enum-told-2 : tie.Need-enum-told-2
 enum-told-2 c = search mine
 
-following-requires : tie.Need-following-requires
-following-requires c κs = search mine
+hunt-after-with-requires : tie.Need-hunt-after-with-requires
+hunt-after-with-requires c κs = search mine
 
 told-requires-2 : tie.Need-told-requires-2
 told-requires-2 c κs = search mine
@@ -42,10 +42,10 @@ line-at-spec =
     tie.close
     (tie.spec
     enum-told
-    first-requires
+    hunt-with-requires
     told-requires
     enum-told-2
-    following-requires
+    hunt-after-with-requires
     told-requires-2
     enum-told-3
     told-requires-3
