@@ -13,6 +13,7 @@ use Rattle.frames.specs.declared.entries.Term.{Term}
 use Rattle.runs.specs.Runs.{put}
 use Rattle.text_reader.specs.Adding.{termNumbers, pairNumbers, variableNumbers, NoteMade, PieceAdded}
 use Rattle.text_reader.specs.State.{passedTo, tallyOf, afterRow, afterSaid, afterVariable, afterSymbol, afterLiteral}
+use Rattle.text_reader.specs.declared.lines.Step.the-variants.{Next}
 use Rattle.text_reader.specs.declared.state.State.{State}
 
 pub tally-one : (kind of : ℕ) → kind ≡ of → 1 ≡ tallyOf kind of
@@ -28,7 +29,7 @@ module _ (run run′ : List ℕ) (n : ℕ) (s m : State) (next : ℕ) (m₀ : m 
   module _ (t : Term) (k : ℕ) (e : k ≡ t .count) where
     pub row-added : run′ ≡ put 6 run n (t .head ∷ k ∷ t .a ∷ t .b ∷ t .c ∷ t .d ∷ [])
         → PieceAdded 6 run n (termNumbers t) run′ (afterRow (passedTo s next))
-        (record {
+        (Next (record {
           at = m .at;
           line = m .line;
           rank = 1;
@@ -38,12 +39,12 @@ module _ (run run′ : List ℕ) (n : ℕ) (s m : State) (next : ℕ) (m₀ : m 
           patterns = m .patterns;
           literals = m .literals;
           terms = s .terms + 1;
-        })
+        }))
     row-added h = record { state = rw m₀; written = h ∙ rw e }
 
     pub symbol-added : run′ ≡ put 7 run n (5 ∷ t .head ∷ k ∷ t .a ∷ t .b ∷ t .c ∷ t .d ∷ [])
         → PieceAdded 7 run n (5 ∷ termNumbers t) run′ (afterSymbol (passedTo s next))
-        (record {
+        (Next (record {
           at = m .at;
           line = m .line;
           rank = 3;
@@ -53,11 +54,11 @@ module _ (run run′ : List ℕ) (n : ℕ) (s m : State) (next : ℕ) (m₀ : m 
           patterns = s .patterns + 1;
           literals = m .literals;
           terms = s .terms + 1;
-        })
+        }))
     symbol-added h = record { state = rw m₀; written = h ∙ rw e }
 
   pub variable-added : (v : ℕ) → run′ ≡ put 7 run n (variableNumbers v) → PieceAdded 7 run n (variableNumbers v) run′ (afterVariable (passedTo s next))
-      (record {
+      (Next (record {
         at = m .at;
         line = m .line;
         rank = 3;
@@ -67,12 +68,12 @@ module _ (run run′ : List ℕ) (n : ℕ) (s m : State) (next : ℕ) (m₀ : m 
         patterns = s .patterns + 1;
         literals = m .literals;
         terms = m .terms;
-      })
+      }))
   variable-added v h = record { state = rw m₀; written = h }
 
   module _ (k : ℕ) (p : Pair) (h : run′ ≡ put 3 run n (pairNumbers k p)) where
     pub said-added : (x y : ℕ) → x ≡ tallyOf k 2 → y ≡ tallyOf k 3 → PieceAdded 3 run n (pairNumbers k p) run′ (afterSaid k (passedTo s next))
-        (record {
+        (Next (record {
           at = m .at;
           line = m .line;
           rank = 2;
@@ -82,11 +83,11 @@ module _ (run run′ : List ℕ) (n : ℕ) (s m : State) (next : ℕ) (m₀ : m 
           patterns = m .patterns;
           literals = m .literals;
           terms = m .terms;
-        })
+        }))
     said-added x y e f = record { state = rw (m₀, e, f); written = h }
 
     pub literal-added : PieceAdded 3 run n (pairNumbers k p) run′ (afterLiteral (passedTo s next))
-        (record {
+        (Next (record {
           at = m .at;
           line = m .line;
           rank = 4;
@@ -96,7 +97,7 @@ module _ (run run′ : List ℕ) (n : ℕ) (s m : State) (next : ℕ) (m₀ : m 
           patterns = m .patterns;
           literals = s .literals + 1;
           terms = m .terms;
-        })
+        }))
     literal-added = record { state = rw m₀; written = h }
 
 pub note-made : (fs ks : List ℕ) (n f k c : ℕ) (fs′ ks′ : List ℕ) → k ≡ c → NoteMade fs ks n f k fs′ ks′ → NoteMade fs ks n f c fs′ ks′

@@ -1,6 +1,7 @@
 pub mod Adding
 pub mod Agreeing
 pub mod Answering
+pub mod Entered
 pub mod Entering
 pub mod Filling
 pub mod Kinded

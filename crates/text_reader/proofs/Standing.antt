@@ -9,7 +9,7 @@
 -- Assumes nothing.
 use mathlib.Core.Bool.{true}
 use mathlib.Core.List.{List, [], _∷_, _++_}
-use mathlib.Core.Path.{_≡_, refl, sym, ap, subst, _∙_}
+use mathlib.Core.Path.{_≡_, refl, ap, subst, _∙_}
 use Prim.Native.Nat.{ℕ, _+_, _-_, _<_, _≤_}
 use native.Mathlib.Numerals.{add-one}
 use native.Mathlib.Nat.{add-zero}
@@ -22,7 +22,7 @@ use Rattle.meaning.specs.Context.{Row, Statement, same, differ}
 use Rattle.meaning.specs.Rules.{Pattern, variable, apply, Literal}
 use Rattle.meaning.specs.Columns.{kindOf, patternKind, headOf, argsIn}
 use Rattle.meaning.specs.Text as M
-use Rattle.meaning.specs.Text.{Read, nothingRead, faulty, taken, read, readLines, linesOf, linesFrom, narrow, row, statement, pattern, literal, put, putContext, putClause, rankOf, rowsOf, patternsOf, ledgerOf}
+use Rattle.meaning.specs.Text.{Read, nothingRead, read, readLines, linesOf, linesFrom, narrow, row, statement, pattern, literal, put, putContext, putClause, rankOf, rowsOf, patternsOf, ledgerOf}
 use Rattle.meaning.proofs.Logic.{and-true-left}
 use Rattle.frames.specs.Lines.{Legible, Illegible, LineAt}
 use Rattle.frames.specs.declared.entries.Pair.{Pair}
@@ -181,8 +181,8 @@ module _ (text : List ℕ) (s : State) (rs ss ps ls fs ks : List ℕ) (h : Stand
         → read narrow text ≡ readLines narrow (s .line + 1) (put e (h .so)) (linesOf (drop (end + 1) text))
     goes-on e f i = h .same ∙ turn-taken text (s .at) end g (s .line) (h .so) f ∙ rw (i, add-one (s .line))
 
-    further : (r n : State) (rs′ ss′ ps′ ls′ fs′ ks′ : List ℕ) → n .at ≡ end + 1 → r ≡ n → Stands text n rs′ ss′ ps′ ls′ fs′ ks′
-        → Steps text (s .at) (N.Next r) rs′ ss′ ps′ ls′ fs′ ks′
+    further : (r : Step) (n : State) (rs′ ss′ ps′ ls′ fs′ ks′ : List ℕ) → n .at ≡ end + 1 → r ≡ N.Next n → Stands text n rs′ ss′ ps′ ls′ fs′ ks′
+        → Steps text (s .at) r rs′ ss′ ps′ ls′ fs′ ks′
     further r n rs′ ss′ ps′ ls′ fs′ ks′ a e z = rw e record { stands = z; further = omega (arith, g .from) }
 
     room-of : (e : M.Entry) → faultIn text (s .at) end (h .so) ≡ 0 → entryIn text (s .at) end ≡ e → M.room narrow e (h .so) ≡ true
@@ -269,8 +269,8 @@ module _ (text : List ℕ) (s : State) (rs ss ps ls fs ks : List ℕ) (h : Stand
                     };
               }
 
-        pub row-next : (fs′ ks′ : List ℕ) → NoteMade fs ks (s .terms) (t .head) (t .count) fs′ ks′ → (r : State) (rs′ : List ℕ)
-            → PieceAdded 6 rs (s .rows) (termNumbers t) rs′ (afterRow (passedTo s (end + 1))) r → Steps text (s .at) (N.Next r) rs′ ss ps ls fs′ ks′
+        pub row-next : (fs′ ks′ : List ℕ) → NoteMade fs ks (s .terms) (t .head) (t .count) fs′ ks′ → (r : Step) (rs′ : List ℕ)
+            → PieceAdded 6 rs (s .rows) (termNumbers t) rs′ (afterRow (passedTo s (end + 1))) r → Steps text (s .at) r rs′ ss ps ls fs′ ks′
         row-next fs′ ks′ m r rs′ p = further r _ rs′ ss ps ls fs′ ks′ refl (p .state) (row-stands rs′ fs′ ks′ (p .written) (m .symbols) (m .counts))
 
       -- ---- a statement
@@ -348,8 +348,8 @@ module _ (text : List ℕ) (s : State) (rs ss ps ls fs ks : List ℕ) (h : Stand
                     };
               }
 
-        pub said-next : (r : State) (ss′ : List ℕ) → PieceAdded 3 ss (s .equations + s .differences) (pairNumbers kind q) ss′ (afterSaid kind (passedTo s (end + 1))) r
-            → Steps text (s .at) (N.Next r) rs ss′ ps ls fs ks
+        pub said-next : (r : Step) (ss′ : List ℕ) → PieceAdded 3 ss (s .equations + s .differences) (pairNumbers kind q) ss′ (afterSaid kind (passedTo s (end + 1))) r
+            → Steps text (s .at) r rs ss′ ps ls fs ks
         said-next r ss′ p = further r _ rs ss′ ps ls fs ks refl (p .state) (said-stands ss′ (p .written))
 
       -- ---- a pattern row: the state, the symbols noted and the numbers differ by its kind
@@ -413,8 +413,8 @@ module _ (text : List ℕ) (s : State) (rs ss ps ls fs ks : List ℕ) (h : Stand
         pub variable-fits : PieceFits 7 ps (s .patterns) s
         variable-fits = pattern-fits (variableNumbers v) refl variable-adds
 
-        pub variable-next : (r : State) (ps′ : List ℕ) → PieceAdded 7 ps (s .patterns) (variableNumbers v) ps′ (afterVariable (passedTo s (end + 1))) r
-            → Steps text (s .at) (N.Next r) rs ss ps′ ls fs ks
+        pub variable-next : (r : Step) (ps′ : List ℕ) → PieceAdded 7 ps (s .patterns) (variableNumbers v) ps′ (afterVariable (passedTo s (end + 1))) r
+            → Steps text (s .at) r rs ss ps′ ls fs ks
         variable-next r ps′ p =
             further r _ rs ss ps′ ls fs ks refl (p .state)
             (pattern-stands (variableNumbers v) refl variable-adds (s .terms) ps′ fs ks (p .written) (omega arith) refl refl
@@ -434,8 +434,8 @@ module _ (text : List ℕ) (s : State) (rs ss ps ls fs ks : List ℕ) (h : Stand
         pub symbol-fits : PieceFits 7 ps (s .patterns) s
         symbol-fits = pattern-fits (5 ∷ termNumbers t) refl symbol-adds
 
-        pub symbol-next : (fs′ ks′ : List ℕ) → NoteMade fs ks (s .terms) (t .head) (t .count) fs′ ks′ → (r : State) (ps′ : List ℕ)
-            → PieceAdded 7 ps (s .patterns) (5 ∷ termNumbers t) ps′ (afterSymbol (passedTo s (end + 1))) r → Steps text (s .at) (N.Next r) rs ss ps′ ls fs′ ks′
+        pub symbol-next : (fs′ ks′ : List ℕ) → NoteMade fs ks (s .terms) (t .head) (t .count) fs′ ks′ → (r : Step) (ps′ : List ℕ)
+            → PieceAdded 7 ps (s .patterns) (5 ∷ termNumbers t) ps′ (afterSymbol (passedTo s (end + 1))) r → Steps text (s .at) r rs ss ps′ ls fs′ ks′
         symbol-next fs′ ks′ m r ps′ p =
             let a : patternKind (symbol-adds .made) ≡ 5 = let i = symbol-adds .piece-is in cc in
             let b : headOf (symbol-adds .made) ≡ t .head = let i = symbol-adds .piece-is in cc in
@@ -505,8 +505,8 @@ module _ (text : List ℕ) (s : State) (rs ss ps ls fs ks : List ℕ) (h : Stand
                     };
               }
 
-        pub literal-next : (r : State) (ls′ : List ℕ) → PieceAdded 3 ls (s .literals) (pairNumbers sign q) ls′ (afterLiteral (passedTo s (end + 1))) r
-            → Steps text (s .at) (N.Next r) rs ss ps ls′ fs ks
+        pub literal-next : (r : Step) (ls′ : List ℕ) → PieceAdded 3 ls (s .literals) (pairNumbers sign q) ls′ (afterLiteral (passedTo s (end + 1))) r
+            → Steps text (s .at) r rs ss ps ls′ fs ks
         literal-next r ls′ p = further r _ rs ss ps ls′ fs ks refl (p .state) (literal-stands ls′ (p .written))
 
 -- ---- from the first line to the last
@@ -546,28 +546,4 @@ stand-done text s rs ss ps ls fs ks h b =
       literals = h .literals;
     }
 
-pub ruleset mine = (
-  needs,
-  line-legible,
-  line-illegible,
-  stand-start,
-  noted,
-  stop-illegible,
-  stop-refused,
-  row-notes,
-  row-fits,
-  row-next,
-  said-fits,
-  said-next,
-  variable-fits,
-  variable-next,
-  symbol-notes,
-  symbol-fits,
-  symbol-next,
-  literal-fits,
-  literal-next,
-  moved-stands,
-  moved-less,
-  end-refused,
-  stand-done,
-)
+pub ruleset mine = (needs, stand-start, moved-stands, moved-less, end-refused, stand-done)

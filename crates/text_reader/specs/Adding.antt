@@ -10,6 +10,8 @@ use lib.ListN.{length, set}
 use Rattle.frames.specs.declared.entries.Pair.{Pair}
 use Rattle.frames.specs.declared.entries.Term.{Term}
 use Rattle.runs.specs.Runs.{put}
+use Rattle.text_reader.specs.declared.lines.Step.{Step}
+use Rattle.text_reader.specs.declared.lines.Step.the-variants.{Next}
 use Rattle.text_reader.specs.declared.state.State.{State}
 
 abbrev pub termNumbers : Term → List ℕ
@@ -35,6 +37,6 @@ pub record PieceFits (size : ℕ) (run : List ℕ) (n : ℕ) (s : State) : Type 
   pub line : s .line < 65535
 
 -- the state afterwards, and piece n written
-pub record PieceAdded (size : ℕ) (run : List ℕ) (n : ℕ) (piece run′ : List ℕ) (after r : State) : Type 0 where
-  pub state : r ≡ after
+pub record PieceAdded (size : ℕ) (run : List ℕ) (n : ℕ) (piece run′ : List ℕ) (after : State) (r : Step) : Type 0 where
+  pub state : r ≡ Next after
   pub written : run′ ≡ put size run n piece

@@ -3,6 +3,7 @@
 --     offsetFor, Stopped     the byte of it that a refusal names; a refusal is the first test that fails, and its byte
 --     Adds, EntryIs          an entry is what the line adds, or its refusal
 --     Filled, Stands         a run holds some pieces; the runs hold what the lines before a place said, and reading goes on from there
+--     Reached                a legible line begins where the reading stands, and its end is found
 --     meant, Faulty, Steps   a refusal as a value of `meaning`; a text that it is given for; what one line more leaves
 --     Ready, Ends            before the first line, and after the last
 --     toldRefused            what is told of a refused text
@@ -14,6 +15,7 @@ use Prim.Native.Nat.{ℕ, _+_, _-_, _*_, _<_, _≤_}
 use lib.ListN.{length, take, drop, replicate}
 use Rattle.meaning.specs.Text as M
 use Rattle.meaning.specs.Text.{Read, row, statement, pattern, literal, listedAs, kinds, entryOf, fieldAt, testsOf, firstFault, offsetOf, narrow, readLines, read, linesOf, faulty, taken, rowsOf, patternsOf}
+use Rattle.frames.specs.Lines.{Legible}
 use Rattle.runs.specs.Limits.{mostRows, mostStatements, mostPatterns, mostLiterals, rowSize, saidSize, patternSize, literalSize}
 use Rattle.told.specs.Numbers.{rowNumbers, saidNumbers, patternNumbers, literalNumbers, numbersOf}
 use Rattle.told.specs.declared.Answer.the-variants.{Refused}
@@ -102,6 +104,9 @@ pub record Stands (text : List ℕ) (s : State) (rs ss ps ls fs ks : List ℕ) :
   pub literals : Filled literalNumbers literalSize (s .literals) (so .clause .literals) ls
   pub used : Used fs ks (s .terms) so
   pub space : Space rs ss ps ls fs ks
+
+pub data Reached (text : List ℕ) (end : ℕ) (s : State) (rs ss ps ls fs ks : List ℕ) : Type 0 where
+  reached : Stands text s rs ss ps ls fs ks → Legible text (s .at) end → Reached text end s rs ss ps ls fs ks
 
 abbrev pub meant : Refusal → M.Refusal
 meant x = record { number = x .number; place = x .line; offset = x .offset }
