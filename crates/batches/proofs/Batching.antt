@@ -11,7 +11,7 @@ use Prim.Native.Nat.{ℕ, zero, suc, _+_, _≤_, _<_}
 use native.Mathlib.Omega.{arith}
 use lib.Dec.{eqb, ltb}
 use borrow.Author.Tests.{ltb-true, ltb-false}
-use lib.ListN.{length, getD, take, drop, replicate, length-take, length-replicate, List·getD-eq-default}
+use lib.ListN.{length, getD, take, drop, replicate, length-take, List·getD-eq-default}
 use lib.Seq.{getD-take, take-length}
 use Rattle.meaning.specs.Context.{Term, Context}
 use Rattle.meaning.specs.Rules.{Clause}
@@ -51,29 +51,23 @@ batch-most rows from owner cells s o = send-most rows from owner cells (markedFo
 -- ---- what the new numbers say of the shared steps
 
 pub record Knows (shared : List Step) (news : List ℕ) (steps : List Step) : Type 0 where
-  pub size : length news ≡ 16385
   pub known : (p q : ℕ) → p < length shared → getD news (suc p) 0 ≡ suc q → Shown steps q (stepAt shared p)
   pub closed : (p : ℕ) → p < length shared → (getD news (suc p) 0 ≡ 0 → ⊥) → 2 < stepAt shared p .kind → (j r : ℕ) → numberIn (stepAt shared p) j ≡ suc r → r < p
       → getD news (suc r) 0 ≡ 0
       → ⊥
 
-pub knows-start : (shared steps : List Step) → Knows shared (replicate 16385 0) steps
-knows-start shared steps =
-    record {
-      size = length-replicate {A = ℕ} 16385 0;
-      known = λ p q h e. absurd (omega (arith, zeros-at 16385 (suc p), e));
-      closed = λ p h e l j r n b z. e (zeros-at 16385 (suc p));
-    }
+pub knows-start : (shared steps : List Step) (n : ℕ) → Knows shared (replicate n 0) steps
+knows-start shared steps n =
+    record { known = λ p q h e. absurd (omega (arith, zeros-at n (suc p), e)); closed = λ p h e l j r n₁ b z. e (zeros-at n (suc p)) }
 
 -- ---- one batch
 
--- so many places are left as a column has steps
+-- so many places are left as a column has steps, and there is a place for the number of each
 pub record Space (cells : List ℕ) (o : Out) : Type 0 where
   pub counted : length (stepsIn o) ≡ o .next
   pub few : o .next + countIn cells < 4294967296
-  pub first : o .next + countIn cells ≤ length (o .firsts)
-  pub second : o .next + countIn cells ≤ length (o .seconds)
-  pub third : o .next + countIn cells ≤ length (o .thirds)
+  pub numbers : countIn cells < length (o .news)
+  pub space : o .next + countIn cells ≤ length (o .steps)
 
 -- step s of a draft, which begins with shared steps
 module _ (c : Context) (k : Clause) (a : List ℕ) (shared steps : List Step) (s : ℕ) (o : Out) where
@@ -88,15 +82,12 @@ module _ (c : Context) (k : Clause) (a : List ℕ) (shared steps : List Step) (s
     pub used : (q : ℕ) → o .next ≤ q → q < o′ .next → (newOf (o′ .news) s ≡ suc q) ⊎ CitedLater (stepsIn o′) q
     pub owned : (x : ℕ) → ownedBy x (stepsIn o′) + passing (named steps x (forgotten (length shared) (o .news))) (length steps)
         ≤ ownedBy x (stepsIn o) + passing (named steps x (o′ .news)) (length steps)
-    pub rest₁ : drop (o′ .next) (o′ .firsts) ≡ drop (o′ .next) (o .firsts)
-    pub rest₂ : drop (o′ .next) (o′ .seconds) ≡ drop (o′ .next) (o .seconds)
-    pub rest₃ : drop (o′ .next) (o′ .thirds) ≡ drop (o′ .next) (o .thirds)
-    pub long₁ : length (o′ .firsts) ≡ length (o .firsts)
-    pub long₂ : length (o′ .seconds) ≡ length (o .seconds)
-    pub long₃ : length (o′ .thirds) ≡ length (o .thirds)
+    pub numbers : length (o′ .news) ≡ length (o .news)
+    pub rest : drop (o′ .next) (o′ .steps) ≡ drop (o′ .next) (o .steps)
+    pub long : length (o′ .steps) ≡ length (o .steps)
 
 module _ (c : Context) (k : Clause) (a : List ℕ) (fewRows : length (c .rows) ≤ 255) (fewPatterns : length (k .patterns) ≤ 64) (from owner : ℕ)
-    (cells : List ℕ) (drafted : Follow c k a (draft (length (c .rows)) from owner cells)) (small : Small cells) (fits : countIn cells ≤ 16384) (shared : List Step)
+    (cells : List ℕ) (drafted : Follow c k a (draft (length (c .rows)) from owner cells)) (small : Small cells) (shared : List Step)
     (alike : take from (draft (length (c .rows)) from owner cells) ≡ shared) (early : from ≤ countIn cells) (s : ℕ) (inside : s ≤ countIn cells) where
   abbrev steps : List Step
   steps = draft (length (c .rows)) from owner cells
@@ -138,7 +129,7 @@ module _ (c : Context) (k : Clause) (a : List ℕ) (fewRows : length (c .rows) �
             let z : i < countIn cells = omega (arith, all) in
             let y : getD (citesAt cells i) j 0 ≡ suc p = sym (number-at i z j) ∙ x in
             subst (λ (r : ℕ). keep r ≡ true) y
-            (for-closed cells fits s i z (subst (λ (r : ℕ). keep r ≡ true) (omega arith) e) (omega (arith, kind-at i z)) j (among i j p y) (omega (arith, y)));
+            (for-closed cells s i z (subst (λ (r : ℕ). keep r ≡ true) (omega arith) e) (omega (arith, kind-at i z)) j (among i j p y) (omega (arith, y)));
       }
 
   -- from these new numbers and words
@@ -154,22 +145,22 @@ module _ (c : Context) (k : Clause) (a : List ℕ) (fewRows : length (c .rows) �
       where
         go : (b : Bool) → ltb p from ≡ b → p < from
         go true f = ltb-true p from f
-        go false f = absurd (omega (arith, forgotten-own from (o .news) (knew .size) p (ltb-false p from f), e))
+        go false f = absurd (omega (arith, forgotten-own from (o .news) p (ltb-false p from f), e))
 
     shows₀ : (p q : ℕ) → getD news₀ (suc p) 0 ≡ suc q → Shown (stepsIn o) q (stepAt steps p)
     shows₀ p q e =
         let l : p < from = own-none p q e in
-        rw (sym (shared-at p l)) (knew .known p q (omega (arith, many)) (sym (forgotten-shared from (o .news) (knew .size) p l) ∙ e))
+        rw (sym (shared-at p l)) (knew .known p q (omega (arith, many)) (sym (forgotten-shared from (o .news) p l) ∙ e))
 
     start : Sending c k a steps keep news₀ (stepsIn o) 0 news₀ (stepsIn o)
-    start = sending-start c k a steps keep news₀ (stepsIn o) (forgotten-long from (o .news) (knew .size)) before shows₀
+    start = sending-start c k a steps keep news₀ (stepsIn o) before shows₀
 
     module _ (news : List ℕ) (made : List Step) (w : Sending c k a steps keep news₀ (stepsIn o) (countIn cells) news made) where
       step-cites : {owner′ : ℕ} {t u : Term} → Cites c k a steps owner′ s t u → Cites c k a made owner′ (newOf news s) t u
       step-cites {owner′} {t} {u} e =
           cites-new c k a steps news made (w .shown) (length steps) (omega arith)
           (subst (λ (l : List Step). Cites c k a l owner′ s t u) (sym (take-length steps)) e)
-          (λ z. w .done (e .place) (omega (arith, e .inside, all)) (subst (λ (r : ℕ). keep r ≡ true) (e .counted) (for-self cells fits s inside))
+          (λ z. w .done (e .place) (omega (arith, e .inside, all)) (subst (λ (r : ℕ). keep r ≡ true) (e .counted) (for-self cells s inside))
           (ap (λ (r : ℕ). getD news r 0) (sym (e .counted)) ∙ z))
 
       -- what a step with a new number cites has one
@@ -185,13 +176,13 @@ module _ (c : Context) (k : Clause) (a : List ℕ) (fewRows : length (c .rows) �
           go zero f =
               w .done r (omega arith) (closed .stays p (omega (arith, all)) (w .only p (new .0) f (new .1) .1) l j r n b) z
           go (suc v) f =
-              knew .closed p (omega (arith, many)) (λ y. omega (arith, forgotten-shared from (o .news) (knew .size) p h, f, y))
+              knew .closed p (omega (arith, many)) (λ y. omega (arith, forgotten-shared from (o .news) p h, f, y))
               (subst (λ (x : Step). 2 < x .kind) (sym (shared-at p h)) l)
               j
               r
               (subst (λ (x : Step). numberIn x j ≡ suc r) (sym (shared-at p h)) n)
               b
-              (sym (forgotten-shared from (o .news) (knew .size) r (omega arith)) ∙ gone (getD news₀ (suc r) 0) refl)
+              (sym (forgotten-shared from (o .news) r (omega arith)) ∙ gone (getD news₀ (suc r) 0) refl)
             where
               gone : (y : ℕ) → getD news₀ (suc r) 0 ≡ y → getD news₀ (suc r) 0 ≡ 0
               gone zero x = x
@@ -200,7 +191,6 @@ module _ (c : Context) (k : Clause) (a : List ℕ) (fewRows : length (c .rows) �
       knows-after : Knows shared news made
       knows-after =
           record {
-            size = w .size;
             known = λ p q h e. rw (shared-at p (omega (arith, many))) (w .shown p q e);
             closed = λ p h e l j r n b.
                 let y : p < from = omega (arith, many) in
@@ -208,7 +198,7 @@ module _ (c : Context) (k : Clause) (a : List ℕ) (fewRows : length (c .rows) �
           }
 
       used-after : (q : ℕ) → length (stepsIn o) ≤ q → q < length made → (newOf news s ≡ suc q) ⊎ CitedLater made q
-      used-after q h l = go (for-why cells fits s (suc p) (w .only p q (from₀ .1) (from₀ .2) .1))
+      used-after q h l = go (for-why cells s (suc p) (w .only p q (from₀ .1) (from₀ .2) .1))
         where
           from₀ : (p : ℕ) × (getD news₀ (suc p) 0 ≡ 0) × (getD news (suc p) 0 ≡ suc q)
           from₀ = w .origin q h l
@@ -246,13 +236,13 @@ module _ (c : Context) (k : Clause) (a : List ℕ) (fewRows : length (c .rows) �
               sorted (suc v) f =
                   let y : i < from = own-none i v f in
                   absurd
-                  (knew .closed i (omega (arith, many)) (λ x. omega (arith, forgotten-shared from (o .news) (knew .size) i y, f, x))
+                  (knew .closed i (omega (arith, many)) (λ x. omega (arith, forgotten-shared from (o .news) i y, f, x))
                   (subst (λ (x : Step). 2 < x .kind) (sym (shared-at i y)) citing)
                   (e .which)
                   p
                   (subst (λ (x : Step). numberIn x (e .which) ≡ suc p) (sym (shared-at i y)) number)
                   (omega (arith, e .earlier))
-                  (sym (forgotten-shared from (o .news) (knew .size) p (omega (arith, e .earlier))) ∙ from₀ .1))
+                  (sym (forgotten-shared from (o .news) p (omega (arith, e .earlier))) ∙ from₀ .1))
 
     pub batch-sent : Space cells o → Sent c k a shared steps s o (batch (length (c .rows)) from owner cells s o)
     unfolding batch resent stepsIn
@@ -267,18 +257,20 @@ module _ (c : Context) (k : Clause) (a : List ℕ) (fewRows : length (c .rows) �
           cites = step-cites (e .0 .news) (stepsIn (e .0)) (e .1 .sends);
           used = λ q h l. used-after (e .0 .news) (stepsIn (e .0)) (e .1 .sends) q (omega (arith, room .counted)) (omega (arith, e .1 .counted));
           owned = λ x. rw (all, many) (e .1 .sends .owned x);
-          rest₁ = e .1 .rest₁;
-          rest₂ = e .1 .rest₂;
-          rest₃ = e .1 .rest₃;
-          long₁ = e .1 .long₁;
-          long₂ = e .1 .long₂;
-          long₃ = e .1 .long₃;
+          numbers = e .1 .sends .size ∙ forgotten-long from (o .news);
+          rest = e .1 .rest;
+          long = e .1 .long;
         }
       where
-        e : (o′ : Out) × Emitting c k a fewRows fewPatterns from owner cells drafted small fits marks closed o₀ (countIn cells) o′
+        e : (o′ : Out) × Emitting c k a fewRows fewPatterns from owner cells drafted small marks closed o₀ (countIn cells) o′
         e = (
           batch (length (c .rows)) from owner cells s o,
-          emitted-all c k a fewRows fewPatterns from owner cells drafted small fits marks closed o₀
-              (record { counted = room .counted; few = room .few; first = room .first; second = room .second; third = room .third })
+          emitted-all c k a fewRows fewPatterns from owner cells drafted small marks closed o₀
+              (record {
+                counted = room .counted;
+                few = room .few;
+                numbers = omega (arith, room .numbers, forgotten-long from (o .news));
+                space = room .space;
+              })
               start,
         )

@@ -9,14 +9,13 @@
 --     breach-few, breach-used     it is at most 16 times 7,020 steps, and each is cited
 --     breach-each                 each owner has at most 7,050 of them: the shared ones are written once, and two more for each equal literal
 --     breach-written              the words that are written hold them
---     breach-rest, breach-long    every later place is as before, and the columns keep their lengths
+--     breach-rest, breach-long    every later place is as before, and the run keeps its length
 -- Assumes nothing.
 use mathlib.Core.List.{List}
 use mathlib.Core.Path.{_≡_, ap, sym, _∙_}
 use Prim.Native.Nat.{ℕ, zero, suc, _+_, _*_, _≤_, _<_}
 use native.Mathlib.Omega.{arith}
 use lib.ListN.{length, getD, take, drop, length-take}
-use Rattle.meaning.specs.GroundColumns.{stepsFrom}
 use Rattle.meaning.specs.Context.{Row, rowAt, Context, equations, differences}
 use Rattle.meaning.specs.Rules.{variables, rangeOf, Clause, AllHold, Breach}
 use Rattle.meaning.specs.Formed.{Formed}
@@ -29,6 +28,8 @@ use Rattle.meaning.proofs.Table.{length-terms}
 use Rattle.meaning.proofs.Entries.{length-map}
 use Rattle.meaning.proofs.Cited.{Ready}
 use Rattle.meaning.proofs.Built.{rows-at}
+use Rattle.runs.specs.Limits.{mostRows, mostPatterns, mostLiterals}
+use Rattle.grounds_steps.specs.Steps.{stepsOf}
 use Rattle.numbering.specs.Entries.{Filled}
 use Rattle.numbering.specs.declared.table.Table.{Table}
 use Rattle.grounding.specs.Draft.{countIn}
@@ -52,8 +53,8 @@ breach-chosen c k a breach v h =
 -- places past the variables are not read
 module _ (c : Context) (k : Clause) (a : List ℕ) (formed : Formed c k)
     (chosen : Each (variables (k .patterns)) (λ v. (v < length a) × (getD a v 0 < length (c .rows)))) (hold : AllHold c (instancesOf c k a) (k .literals)) (t : Table)
-    (filled : Filled (entries (c .rows) a (k .patterns)) t (length (c .rows) + length (k .patterns))) (fewRows : length (c .rows) ≤ 255)
-    (fewPatterns : length (k .patterns) ≤ 64) (fewLiterals : length (k .literals) ≤ 16) where
+    (filled : Filled (entries (c .rows) a (k .patterns)) t (length (c .rows) + length (k .patterns))) (fewRows : length (c .rows) ≤ mostRows)
+    (fewPatterns : length (k .patterns) ≤ mostPatterns) (fewLiterals : length (k .literals) ≤ mostLiterals) where
   abbrev all : ℕ
   all = length (c .rows) + length (k .patterns)
 
@@ -103,16 +104,16 @@ module _ (c : Context) (k : Clause) (a : List ℕ) (formed : Formed c k)
   breach-said j h cells u =
       said-literal c k a (t .numbers) filled-ready few keys filled-keys final breach-shared cells u j h (hold-at c (instancesOf c k a) (k .literals) hold j h)
 
-  -- ---- all literals, in columns of words
+  -- ---- all literals, in a run of words
 
-  module _ (firsts seconds thirds : List ℕ) (room₁ : 112320 ≤ length firsts) (room₂ : 112320 ≤ length seconds) (room₃ : 112320 ≤ length thirds) where
+  module _ (steps : List (List ℕ)) (room : 112320 ≤ length steps) where
     abbrev to : ℕ → Drawn
     to j =
         drawnTo all keys (t .numbers) (length (c .rows)) diffs final (k .literals) j
-        (blankDrawn (final .cells) firsts seconds thirds)
+        (blankDrawn (final .cells) steps)
 
     abbrev pub DrawnTo : ℕ → Drawn → Type 0
-    DrawnTo = Drawing c k a final firsts seconds thirds
+    DrawnTo = Drawing c k a final steps
 
     -- the column of literal j
     abbrev pub SmallAt : ℕ → Type 0
@@ -121,12 +122,12 @@ module _ (c : Context) (k : Clause) (a : List ℕ) (formed : Formed c k)
     pub breach-start : DrawnTo 0 (to 0)
     unfolding drawnTo upto
     breach-start =
-        drawing-start c k a (t .numbers) filled-ready few keys filled-keys fewRows fewPatterns fewLiterals hold final breach-shared firsts seconds thirds room₁ room₂ room₃
+        drawing-start c k a (t .numbers) filled-ready few keys filled-keys fewRows fewPatterns fewLiterals hold final breach-shared steps room
 
     pub breach-next : (j : ℕ) → j < length (k .literals) → SmallAt j → DrawnTo j (to j) → DrawnTo (suc j) (to (suc j))
     unfolding drawnTo upto
     breach-next j h small w =
-        drawing-next c k a (t .numbers) filled-ready few keys filled-keys fewRows fewPatterns fewLiterals hold final breach-shared firsts seconds thirds room₁ room₂ room₃ j h
+        drawing-next c k a (t .numbers) filled-ready few keys filled-keys fewRows fewPatterns fewLiterals hold final breach-shared steps room j h
         (to j)
         w
         small
@@ -136,7 +137,7 @@ module _ (c : Context) (k : Clause) (a : List ℕ) (formed : Formed c k)
     drawn-to small (suc j) h = breach-next j (omega arith) (small j (omega arith)) (drawn-to small j (omega arith))
 
     abbrev end : Drawn
-    end = drawn all keys (t .numbers) (length (c .rows)) diffs final (k .literals) firsts seconds thirds
+    end = drawn all keys (t .numbers) (length (c .rows)) diffs final (k .literals) steps
 
     pub breach-drawn : ((j : ℕ) → j < length (k .literals) → SmallAt j) → DrawnTo (length (k .literals)) end
     unfolding drawn
@@ -146,7 +147,7 @@ module _ (c : Context) (k : Clause) (a : List ℕ) (formed : Formed c k)
       pub breach-accepted : (ds : List Conclusion) → ((j : ℕ) → j < length (k .literals) → conclusionFor (suc j) ds ≡ endWritten end j)
           → Verified c k a (stepsIn (end .out)) ds accepted
       breach-accepted =
-          drawing-accepted c k a (t .numbers) filled-ready few keys filled-keys fewRows fewPatterns fewLiterals hold final breach-shared firsts seconds thirds room₁ room₂ room₃
+          drawing-accepted c k a (t .numbers) filled-ready few keys filled-keys fewRows fewPatterns fewLiterals hold final breach-shared steps room
           end
           w
 
@@ -163,15 +164,13 @@ module _ (c : Context) (k : Clause) (a : List ℕ) (formed : Formed c k)
       pub breach-used : (p : ℕ) → p < end .out .next → Used (stepsIn (end .out)) (endWritten end) (length (k .literals)) p
       breach-used = w .used
 
-      pub breach-written : (n : ℕ) → n ≡ end .out .next
-          → stepsFrom (take n (end .out .firsts)) (take n (end .out .seconds)) (take n (end .out .thirds)) ≡ stepsIn (end .out)
+      pub breach-written : (n : ℕ) → n ≡ end .out .next → stepsOf (take n (end .out .steps)) ≡ stepsIn (end .out)
       unfolding stepsIn
       breach-written n e = rw e
 
       -- every later place is as before
-      pub breach-rest : (n : ℕ) → n ≡ end .out .next
-          → (drop n (end .out .firsts) ≡ drop n firsts) × (drop n (end .out .seconds) ≡ drop n seconds) × (drop n (end .out .thirds) ≡ drop n thirds)
-      breach-rest n e = rw e (w .rest₁, w .rest₂, w .rest₃)
+      pub breach-rest : (n : ℕ) → n ≡ end .out .next → drop n (end .out .steps) ≡ drop n steps
+      breach-rest n e = rw e (w .rest)
 
-      pub breach-long : (length (end .out .firsts) ≡ length firsts) × (length (end .out .seconds) ≡ length seconds) × (length (end .out .thirds) ≡ length thirds)
-      breach-long = (w .long₁, w .long₂, w .long₃)
+      pub breach-long : length (end .out .steps) ≡ length steps
+      breach-long = w .long

@@ -16,9 +16,12 @@ use lib.ListN.{length, getD, set, take, drop, length-set, length-take, length-re
 use lib.Seq.{getD-take, getD-set-same, getD-set-other, drop-drop}
 use Rattle.meaning.specs.Context.{Term, Row, Context, differences}
 use Rattle.meaning.specs.Rules.{Literal, equal, unequal, Clause, AllHold}
-use Rattle.meaning.specs.GroundColumns.{stepsFrom, conclusionFrom}
+use Rattle.meaning.specs.GroundColumns.{conclusionFrom}
 use Rattle.meaning.specs.Grounds.{Step, step₀, stepAt, numberIn, Conclusion, conclusionFor, literalAt, instancesOf, Cites, Concludes, Verified, accepted, accepts}
 use Rattle.meaning.specs.Checking.{numbered}
+use Rattle.runs.specs.Limits.{mostLiterals}
+use Rattle.grounds_steps.specs.Steps.{stepsOf}
+use Rattle.grounding.specs.Limits.{numberRun}
 use Rattle.meaning.proofs.Cited.{Ready}
 use Rattle.grounding.specs.Draft.{countIn, draft}
 use Rattle.grounding.specs.Classes.{State}
@@ -43,7 +46,7 @@ owner-other j (unequal p q) i d e = d (omega arith)
 
 -- ---- more steps
 
-drop-further : (n m : ℕ) (l other : List ℕ) → n ≤ m → drop n l ≡ drop n other → drop m l ≡ drop m other
+drop-further : (n m : ℕ) (l other : List (List ℕ)) → n ≤ m → drop n l ≡ drop n other → drop m l ≡ drop m other
 drop-further n m l other h e =
     let z : m ≡ n + (m - n) = omega arith in
     ap (λ (i : ℕ). drop i l) z ∙ sym (drop-drop (m - n) n l) ∙ ap (drop (m - n)) e ∙ drop-drop (m - n) n other ∙ ap (λ (i : ℕ). drop i other) (sym z)
@@ -92,8 +95,8 @@ module _ (c : Context) (k : Clause) (a : List ℕ) where
 
   -- ---- what is written so far
 
-  -- of shared steps, in three columns of words
-  module _ (closed : State) (firsts seconds thirds : List ℕ) where
+  -- of shared steps, in a run of words
+  module _ (closed : State) (steps : List (List ℕ)) where
     -- after the first j literals
     pub record Drawing (j : ℕ) (d : Drawn) : Type 0 where
       pub under : Under (countIn (closed .cells)) (closed .cells) (d .cells)
@@ -104,21 +107,18 @@ module _ (c : Context) (k : Clause) (a : List ℕ) where
       pub shares : ownedBy 0 (stepsIn (d .out)) ≤ passing (Shared (d .out .news)) (countIn (closed .cells)) + j * 2
       pub owns : (i : ℕ) → ownedBy (suc i) (stepsIn (d .out)) ≤ 7020
       pub later : (i : ℕ) → j ≤ i → ownedBy (suc i) (stepsIn (d .out)) ≡ 0
-      pub ends : length (d .ends) ≡ 16
-      pub differences : length (d .differences) ≡ 16
+      pub numbers : length (d .out .news) ≡ numberRun
+      pub ends : length (d .ends) ≡ mostLiterals
+      pub differences : length (d .differences) ≡ mostLiterals
       pub concluded : (i : ℕ) → i < j → Concludes c k a (stepsIn (d .out)) (suc i) (endWritten d i) (literalAt (k .literals) i)
       pub used : (p : ℕ) → p < d .out .next → Used (stepsIn (d .out)) (endWritten d) j p
-      pub rest₁ : drop (d .out .next) (d .out .firsts) ≡ drop (d .out .next) firsts
-      pub rest₂ : drop (d .out .next) (d .out .seconds) ≡ drop (d .out .next) seconds
-      pub rest₃ : drop (d .out .next) (d .out .thirds) ≡ drop (d .out .next) thirds
-      pub long₁ : length (d .out .firsts) ≡ length firsts
-      pub long₂ : length (d .out .seconds) ≡ length seconds
-      pub long₃ : length (d .out .thirds) ≡ length thirds
+      pub rest : drop (d .out .next) (d .out .steps) ≡ drop (d .out .next) steps
+      pub long : length (d .out .steps) ≡ length steps
 
   module _ (ns : List ℕ) (ready : Ready c k a ns) (few : length (c .rows) + length (k .patterns) ≤ 319) (ks : List Row) (keyed : Keys c k a ns ready few ks)
-      (fewRows : length (c .rows) ≤ 255) (fewPatterns : length (k .patterns) ≤ 64) (fewLiterals : length (k .literals) ≤ 16)
-      (hold : AllHold c (instancesOf c k a) (k .literals)) (closed : State) (closes : Closed c k a ns ready few ks keyed closed) (firsts seconds thirds : List ℕ)
-      (room₁ : 112320 ≤ length firsts) (room₂ : 112320 ≤ length seconds) (room₃ : 112320 ≤ length thirds) where
+      (fewRows : length (c .rows) ≤ 255) (fewPatterns : length (k .patterns) ≤ 64) (fewLiterals : length (k .literals) ≤ mostLiterals)
+      (hold : AllHold c (instancesOf c k a) (k .literals)) (closed : State) (closes : Closed c k a ns ready few ks keyed closed) (steps : List (List ℕ))
+      (room : 112320 ≤ length steps) where
     abbrev N : ℕ
     N = all c k a ns ready
 
@@ -134,33 +134,30 @@ module _ (c : Context) (k : Clause) (a : List ℕ) where
     abbrev diffs : List (ℕ × ℕ)
     diffs = numbered ns (differences c)
 
-    pub drawing-start : Drawing closed firsts seconds thirds 0 (blankDrawn (closed .cells) firsts seconds thirds)
-    unfolding blankDrawn stepsIn stepsFrom ownedBy
+    pub drawing-start : Drawing closed steps 0 (blankDrawn (closed .cells) steps)
+    unfolding blankDrawn stepsIn stepsOf ownedBy
     drawing-start =
         record {
           under = under-self from (closed .cells);
-          knows = knows-start shared (stepsIn (blankDrawn (closed .cells) firsts seconds thirds .out));
+          knows = knows-start shared (stepsIn (blankDrawn (closed .cells) steps .out)) numberRun;
           follow = λ i h. absurd (omega arith);
           counted = refl;
           most = omega arith;
           shares = omega arith;
           owns = λ i. omega arith;
           later = λ i h. refl;
-          ends = length-replicate {A = ℕ} 16 0;
-          differences = length-replicate {A = ℕ} 16 0;
+          numbers = length-replicate {A = ℕ} numberRun 0;
+          ends = length-replicate {A = ℕ} mostLiterals 0;
+          differences = length-replicate {A = ℕ} mostLiterals 0;
           concluded = λ i h. absurd (omega arith);
           used = λ p h. absurd (omega arith);
-          rest₁ = refl;
-          rest₂ = refl;
-          rest₃ = refl;
-          long₁ = refl;
-          long₂ = refl;
-          long₃ = refl;
+          rest = refl;
+          long = refl;
         }
 
     -- ---- one literal more
 
-    module _ (j : ℕ) (h : j < length (k .literals)) (d : Drawn) (w : Drawing closed firsts seconds thirds j d) where
+    module _ (j : ℕ) (h : j < length (k .literals)) (d : Drawn) (w : Drawing closed steps j d) where
       abbrev l : Literal
       l = literalAt (k .literals) j
 
@@ -177,16 +174,13 @@ module _ (c : Context) (k : Clause) (a : List ℕ) where
         abbrev after : Drawn
         after = drawSaid rows from (ownerOf j l) j s d
 
-        fits : countIn (s .cells) ≤ 16384
-        fits = omega (arith, says .most)
-
         inside : s .first ≤ countIn (s .cells)
         inside =
             omega (arith, first-inside (draft rows from (ownerOf j l) (s .cells)) (suc j) (conclusion j s) l (says .concludes), length-draft rows from (ownerOf j l) (s .cells))
 
         sends : Sent c k a shared (draft rows from (ownerOf j l) (s .cells)) (s .first) (d .out) out
         sends =
-            batch-sent c k a fewRows fewPatterns from (ownerOf j l) (s .cells) (says .follow) small fits shared
+            batch-sent c k a fewRows fewPatterns from (ownerOf j l) (s .cells) (says .follow) small shared
             (said-shared c k a ns ready few ks keyed closed closes j l s says)
             (says .past)
             (s .first)
@@ -197,9 +191,8 @@ module _ (c : Context) (k : Clause) (a : List ℕ) where
             (record {
               counted = w .counted;
               few = omega (arith, w .most, says .most);
-              first = omega (arith, w .most, says .most, w .long₁);
-              second = omega (arith, w .most, says .most, w .long₂);
-              third = omega (arith, w .most, says .most, w .long₃);
+              numbers = omega (arith, says .most, w .numbers);
+              space = omega (arith, w .most, says .most, w .long);
             })
 
         -- ---- how many steps each owner has
@@ -210,7 +203,7 @@ module _ (c : Context) (k : Clause) (a : List ℕ) where
 
         others : (i : ℕ) → (i ≡ j → ⊥) → ownedBy (suc i) (stepsIn out) ≤ ownedBy (suc i) (stepsIn (d .out))
         others i e =
-            owns-other rows from (ownerOf j l) (s .cells) (says .past) (d .out .news) (out .news) (w .knows .size) (stepsIn (d .out)) (stepsIn out) owned (suc i) (λ z. omega arith)
+            owns-other rows from (ownerOf j l) (s .cells) (says .past) (d .out .news) (out .news) (stepsIn (d .out)) (stepsIn out) owned (suc i) (λ z. omega arith)
             (owner-other j l i e)
 
         owns : (i : ℕ) → ownedBy (suc i) (stepsIn out) ≤ 7020
@@ -219,7 +212,7 @@ module _ (c : Context) (k : Clause) (a : List ℕ) where
             go : (b : Bool) → eqb i j ≡ b → ownedBy (suc i) (stepsIn out) ≤ 7020
             go true e =
                 rw (eqb-true i j e)
-                (omega (arith, owns-most rows from (ownerOf j l) (s .cells) (says .past) (d .out .news) (out .news) (w .knows .size) (stepsIn (d .out)) (stepsIn out) owned (suc j), says .most, w .later j (omega arith)))
+                (omega (arith, owns-most rows from (ownerOf j l) (s .cells) (says .past) (d .out .news) (out .news) (stepsIn (d .out)) (stepsIn out) owned (suc j), says .most, w .later j (omega arith)))
             go false e = omega (arith, others i (eqb-false i j e), w .owns i)
 
         later : (i : ℕ) → suc j ≤ i → ownedBy (suc i) (stepsIn out) ≡ 0
@@ -227,7 +220,7 @@ module _ (c : Context) (k : Clause) (a : List ℕ) where
 
         shares : ownedBy 0 (stepsIn out) ≤ passing (Shared (out .news)) from + suc j * 2
         shares =
-            omega (arith, shares-more rows from (ownerOf j l) (s .cells) (says .past) (d .out .news) (out .news) (w .knows .size) (stepsIn (d .out)) (stepsIn out) owned 2 (says .brief), w .shares)
+            omega (arith, shares-more rows from (ownerOf j l) (s .cells) (says .past) (d .out .news) (out .news) (stepsIn (d .out)) (stepsIn out) owned 2 (says .brief), w .shares)
 
         -- the conclusions of earlier literals stay, and this one's is new
         end-before : (i : ℕ) → i < j → endWritten after i ≡ endWritten d i
@@ -282,7 +275,7 @@ module _ (c : Context) (k : Clause) (a : List ℕ) where
             go true e = again (w .used p (ltb-true p (d .out .next) e))
             go false e = new (sends .used p (ltb-false p (d .out .next) e) b)
 
-        pub drawing-next : Drawing closed firsts seconds thirds (suc j) (drawOne N ks ns rows diffs closed (k .literals) j d)
+        pub drawing-next : Drawing closed steps (suc j) (drawOne N ks ns rows diffs closed (k .literals) j d)
         unfolding drawOne drawSaid
         drawing-next =
             record {
@@ -294,21 +287,18 @@ module _ (c : Context) (k : Clause) (a : List ℕ) where
               shares = shares;
               owns = owns;
               later = later;
+              numbers = sends .numbers ∙ w .numbers;
               ends = length-set (d .ends) j (newOf (out .news) (s .first)) ∙ w .ends;
               differences = length-set (d .differences) j (s .difference) ∙ w .differences;
               concluded = concluded;
               used = used;
-              rest₁ = sends .rest₁ ∙ drop-further (d .out .next) (out .next) (d .out .firsts) firsts (sends .least) (w .rest₁);
-              rest₂ = sends .rest₂ ∙ drop-further (d .out .next) (out .next) (d .out .seconds) seconds (sends .least) (w .rest₂);
-              rest₃ = sends .rest₃ ∙ drop-further (d .out .next) (out .next) (d .out .thirds) thirds (sends .least) (w .rest₃);
-              long₁ = sends .long₁ ∙ w .long₁;
-              long₂ = sends .long₂ ∙ w .long₂;
-              long₃ = sends .long₃ ∙ w .long₃;
+              rest = sends .rest ∙ drop-further (d .out .next) (out .next) (d .out .steps) steps (sends .least) (w .rest);
+              long = sends .long ∙ w .long;
             }
 
     -- ---- all literals
 
-    pub drawing-accepted : (d : Drawn) → Drawing closed firsts seconds thirds (length (k .literals)) d → (ds : List Conclusion)
+    pub drawing-accepted : (d : Drawn) → Drawing closed steps (length (k .literals)) d → (ds : List Conclusion)
         → ((j : ℕ) → j < length (k .literals) → conclusionFor (suc j) ds ≡ endWritten d j)
         → Verified c k a (stepsIn (d .out)) ds accepted
     drawing-accepted d w ds e =

@@ -6,7 +6,7 @@
 use mathlib.Core.Bool.{Bool, true, false}
 use mathlib.Core.List.{List}
 use mathlib.Core.Path.{_≡_, refl, _∙_}
-use Prim.Native.Nat.{ℕ, zero, suc, _+_, _≤_, _<_}
+use Prim.Native.Nat.{ℕ, zero, suc, _+_, _-_, _≤_, _<_}
 use native.Mathlib.Omega.{arith}
 use lib.Dec.{eqb, ltb}
 use borrow.Author.Tests.{eqb-true, eqb-false, ltb-true, ltb-false}
@@ -38,10 +38,10 @@ module _ (from : ℕ) (news : List ℕ) where
       go false e ih =
           let l : from ≤ n = ltb-false n from e in rw (e, forgetOne) (getD-set-other (left n) (n + 1) (suc p) 0 0 (λ z. omega arith) ∙ ih)
 
-  forget-own : length news ≡ 16385 → (n p : ℕ) → n ≤ 16384 → p < n → from ≤ p → getD (left n) (suc p) 0 ≡ 0
+  forget-own : (n p : ℕ) → n < length news → p < n → from ≤ p → getD (left n) (suc p) 0 ≡ 0
   unfolding upto forgetOne
-  forget-own long zero p b h l = absurd (omega arith)
-  forget-own long (suc n) p b h l = go (ltb n from) refl (eqb p n) refl (forget-own long n p (omega arith))
+  forget-own zero p b h l = absurd (omega arith)
+  forget-own (suc n) p b h l = go (ltb n from) refl (eqb p n) refl (forget-own n p (omega arith))
     where
       go : (b : Bool) → ltb n from ≡ b → (d : Bool) → eqb p n ≡ d → (p < n → from ≤ p → getD (left n) (suc p) 0 ≡ 0) → getD (forgetOne from n (left n)) (suc p) 0 ≡ 0
       go true e d f ih = rw (e, forgetOne) (ih (omega (arith, ltb-true n from e)) l)
@@ -52,19 +52,20 @@ module _ (from : ℕ) (news : List ℕ) where
           rw (e, forgetOne)
           (getD-set-other (left n) (n + 1) (suc p) 0 0 (λ z. eqb-false p n f (omega arith)) ∙ ih (omega (arith, eqb-false p n f)) l)
 
-  module _ (long : length news ≡ 16385) where
-    pub forgotten-long : length (forgotten from news) ≡ 16385
-    unfolding forgotten
-    forgotten-long = forget-long 16384 ∙ long
+  pub forgotten-long : length (forgotten from news) ≡ length news
+  unfolding forgotten
+  forgotten-long = forget-long (length news - 1)
 
-    pub forgotten-shared : (p : ℕ) → p < from → getD (forgotten from news) (suc p) 0 ≡ getD news (suc p) 0
-    unfolding forgotten
-    forgotten-shared p h = forget-shared 16384 p h
+  pub forgotten-shared : (p : ℕ) → p < from → getD (forgotten from news) (suc p) 0 ≡ getD news (suc p) 0
+  unfolding forgotten
+  forgotten-shared p h = forget-shared (length news - 1) p h
 
-    pub forgotten-own : (p : ℕ) → from ≤ p → getD (forgotten from news) (suc p) 0 ≡ 0
-    unfolding forgotten
-    forgotten-own p h = go (ltb p 16384) refl
-      where
-        go : (b : Bool) → ltb p 16384 ≡ b → getD (left 16384) (suc p) 0 ≡ 0
-        go true e = forget-own long 16384 p (omega arith) (ltb-true p 16384 e) h
-        go false e = List·getD-eq-default (left 16384) 0 {n = suc p} (omega (arith, forget-long 16384, ltb-false p 16384 e))
+  pub forgotten-own : (p : ℕ) → from ≤ p → getD (forgotten from news) (suc p) 0 ≡ 0
+  unfolding forgotten
+  forgotten-own p h = go (ltb p (length news - 1)) refl
+    where
+      go : (b : Bool) → ltb p (length news - 1) ≡ b → getD (left (length news - 1)) (suc p) 0 ≡ 0
+      go true e =
+          let l : p < length news - 1 = ltb-true p (length news - 1) e in forget-own (length news - 1) p (omega arith) l h
+      go false e =
+          List·getD-eq-default (left (length news - 1)) 0 {n = suc p} (omega (arith, forget-long (length news - 1), ltb-false p (length news - 1) e))

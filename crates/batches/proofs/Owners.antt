@@ -59,11 +59,11 @@ module _ (rows from owner : ℕ) (cells : List ℕ) (early : from ≤ countIn ce
   unfolding named
   shared-first news = passing-alike (named steps 0 news) (Shared news) from (λ p h. rw (eq-eqb (stepAt steps p .owner) 0 (owner-shared p h)))
 
-  shared-before : (news : List ℕ) → length news ≡ 16385 → passing (Shared news) from ≤ passing (named steps 0 (forgotten from news)) (length steps)
+  shared-before : (news : List ℕ) → passing (Shared news) from ≤ passing (named steps 0 (forgotten from news)) (length steps)
   unfolding kept
-  shared-before news size =
+  shared-before news =
       let same : passing (Shared (forgotten from news)) from ≡ passing (Shared news) from =
-      passing-alike (Shared (forgotten from news)) (Shared news) from (λ p h. rw (forgotten-shared from news size p h)) in
+      passing-alike (Shared (forgotten from news)) (Shared news) from (λ p h. rw (forgotten-shared from news p h)) in
       omega (
         arith,
         same,
@@ -89,7 +89,7 @@ module _ (rows from owner : ℕ) (cells : List ℕ) (early : from ≤ countIn ce
       ∙ shared-first news
 
   -- a batch from these new numbers and steps
-  module _ (news after : List ℕ) (size : length news ≡ 16385) (before made : List Step)
+  module _ (news after : List ℕ) (before made : List Step)
       (owned : (x : ℕ) → ownedBy x made + passing (named (draft rows from owner cells) x (forgotten from news)) (length (draft rows from owner cells))
       ≤ ownedBy x before + passing (named (draft rows from owner cells) x after) (length (draft rows from owner cells))) where
     pub owns-most : (x : ℕ) → ownedBy x made ≤ ownedBy x before + countIn cells
@@ -102,5 +102,5 @@ module _ (rows from owner : ℕ) (cells : List ℕ) (early : from ≤ countIn ce
     shares-more n h = go (eqb owner 0) refl
       where
         go : (b : Bool) → eqb owner 0 ≡ b → ownedBy 0 made + passing (Shared news) from ≤ ownedBy 0 before + passing (Shared after) from + n
-        go true e = omega (arith, owned 0, shared-before news size, shared-own after n (h (eqb-true owner 0 e)))
-        go false e = omega (arith, owned 0, shared-before news size, shared-only after (eqb-false owner 0 e))
+        go true e = omega (arith, owned 0, shared-before news, shared-own after n (h (eqb-true owner 0 e)))
+        go false e = omega (arith, owned 0, shared-before news, shared-only after (eqb-false owner 0 e))

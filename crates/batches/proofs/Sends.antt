@@ -199,7 +199,7 @@ module _ (c : Context) (k : Clause) (a : List ℕ) (draft : List Step) where
     module _ (news₀ : List ℕ) (steps₀ : List Step) where
       -- after the first m steps of the draft; step p of it is sent where it stays and had no new number
       pub record Sending (m : ℕ) (news : List ℕ) (steps : List Step) : Type 0 where
-        pub size : length news ≡ 16385
+        pub size : length news ≡ length news₀
         pub least : length steps₀ ≤ length steps
         pub most : length steps ≤ length steps₀ + m
         pub first : take (length steps₀) steps ≡ steps₀
@@ -215,11 +215,11 @@ module _ (c : Context) (k : Clause) (a : List ℕ) (draft : List Step) where
             → (2 < stepAt steps q .kind)
             × ((j r v : ℕ) → numberIn (stepAt draft p) j ≡ suc r → r < p → getD news (suc r) 0 ≡ suc v → (numberIn (stepAt steps q) j ≡ suc v) × (v < q))
 
-      pub sending-start : length news₀ ≡ 16385 → Follow c k a steps₀ → ShowsAll news₀ steps₀ → Sending 0 news₀ steps₀
+      pub sending-start : Follow c k a steps₀ → ShowsAll news₀ steps₀ → Sending 0 news₀ steps₀
       unfolding passing
-      sending-start size follow shows =
+      sending-start follow shows =
           record {
-            size = size;
+            size = refl;
             least = omega arith;
             most = omega arith;
             first = take-length steps₀;
@@ -262,7 +262,7 @@ module _ (c : Context) (k : Clause) (a : List ℕ) (draft : List Step) where
           done p h true e = subst (λ (i : ℕ). keep (suc i) ≡ true → getD news (suc i) 0 ≡ 0 → ⊥) (sym (eqb-true p m e)) skip
           done p h false e = w .done p (omega (arith, eqb-false p m e))
 
-      module _ (closed : Closed) (fits : length draft ≤ 16384) (m : ℕ) (h : m < length draft) (news : List ℕ) (steps : List Step) (w : Sending m news steps)
+      module _ (closed : Closed) (fits : length draft < length news₀) (m : ℕ) (h : m < length draft) (news : List ℕ) (steps : List Step) (w : Sending m news steps)
           (stays : keep (suc m) ≡ true) (none : getD news (suc m) 0 ≡ 0) where
         abbrev new : List ℕ
         new = set news (suc m) (suc (length steps))

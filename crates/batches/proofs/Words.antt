@@ -1,11 +1,11 @@
 -- The words that are written hold the steps that are sent.
 --     step-word       a step in three words
---     stepsFrom-snoc  one word more in each column is one step more
+--     stepsOf-snoc    the words of one step more are one step more
 --     Emitting        after so many steps of a column: the steps in the words are those sent, and every later place is as before
 --     emitted-all     after all steps
 -- Assumes nothing.
 use mathlib.Core.Bool.{Bool, true, false}
-use mathlib.Core.List.{List, [], _∷_, _++_}
+use mathlib.Core.List.{List, [], _∷_, _++_, map-append}
 use mathlib.Core.Path.{_≡_, refl, ap, ap₂, sym, _∙_, subst, subst₂}
 use Prim.Native.Nat.{ℕ, zero, suc, _+_, _*_, _/_, _%_, _≤_, _<_}
 use native.Mathlib.Omega.{arith}
@@ -16,9 +16,10 @@ use lib.Seq.{take-suc-set, drop-set-lt, drop-drop}
 use Rattle.meaning.specs.Context.{Context}
 use Rattle.meaning.specs.Rules.{Clause}
 use Rattle.meaning.specs.Grounds.{Ref, Step, stepAt, Stands, for-row, for-instance, Derives, by-statement, by-reflexivity, by-symmetry, by-transitivity, by-congruence, by-addition, Follows}
-use Rattle.meaning.specs.GroundColumns.{stepFrom, stepsFrom}
+use Rattle.meaning.specs.GroundColumns.{stepFrom}
+use Rattle.grounds_steps.specs.Steps.{stepOf as wordsStep, wordsOf, stepsOf}
 use Rattle.meaning.proofs.Lists.{length-snoc}
-use Rattle.grounding.specs.Draft.{refOf, stepOf, countIn, ownerAt, stepIn, draft}
+use Rattle.grounding.specs.Draft.{refOf, stepOf, countIn, ownerAt, stepIn, draft, cellIn}
 use Rattle.grounding.specs.Classes.{upto}
 use Rattle.grounding.proofs.Drafts.{Follow, length-draft}
 use Rattle.batches.specs.Marking.{kept}
@@ -48,17 +49,11 @@ step-word owner kind mark row mark′ row′ a b c d hk hm hr hm′ hr′ ha hb 
     let g₂ : twoIn c d % 4294967296 ≡ d = omega arith in
     rw (e₁, e₂, e₃, e₄, e₅, e₆, f₁, f₂, g₁, g₂)
 
-pub stepsFrom-snoc : (xs ys zs : List ℕ) (x y z : ℕ) → length xs ≡ length ys → length ys ≡ length zs
-    → stepsFrom (xs ++ (x ∷ [])) (ys ++ (y ∷ [])) (zs ++ (z ∷ [])) ≡ stepsFrom xs ys zs ++ (stepFrom x y z ∷ [])
-unfolding stepsFrom
-stepsFrom-snoc [] [] [] x y z e f = refl
-stepsFrom-snoc [] [] (c ∷ zs) x y z e f = absurd (omega arith)
-stepsFrom-snoc [] (b ∷ ys) zs x y z e f = absurd (omega arith)
-stepsFrom-snoc (a ∷ xs) [] zs x y z e f = absurd (omega arith)
-stepsFrom-snoc (a ∷ xs) (b ∷ ys) [] x y z e f = absurd (omega arith)
-stepsFrom-snoc (a ∷ xs) (b ∷ ys) (c ∷ zs) x y z e f = ap (λ (l : List Step). stepFrom a b c ∷ l) (stepsFrom-snoc xs ys zs x y z (omega arith) (omega arith))
+stepsOf-snoc : (l : List (List ℕ)) (w : List ℕ) → stepsOf (l ++ (w ∷ [])) ≡ stepsOf l ++ (wordsStep w ∷ [])
+unfolding stepsOf
+stepsOf-snoc l w = map-append wordsStep l (w ∷ [])
 
-drop-later : (l l₀ : List ℕ) (i v : ℕ) → drop i l ≡ drop i l₀ → drop (i + 1) (set l i v) ≡ drop (i + 1) l₀
+drop-later : (l l₀ : List (List ℕ)) (i : ℕ) (v : List ℕ) → drop i l ≡ drop i l₀ → drop (i + 1) (set l i v) ≡ drop (i + 1) l₀
 drop-later l l₀ i v e = drop-set-lt (i + 1) l i v (omega arith) ∙ sym (drop-drop 1 i l) ∙ ap (drop 1) e ∙ drop-drop 1 i l₀
 
 -- ---- what a step that follows holds fits its places
@@ -87,7 +82,7 @@ module _ (c : Context) (k : Clause) (a : List ℕ) (rows : length (c .rows) ≤ 
     stepOn i = stepIn (length (c .rows)) from owner cells i
 
     abbrev cell : ℕ → ℕ → ℕ
-    cell i j = getD cells (i * 7 + j) 0
+    cell i j = cellIn cells i j
 
     step-parts : (i : ℕ) → i < n
         → (stepOn i .kind < 256) × (((stepOn i .left .mark < 256) × (stepOn i .left .row < 65536)) × ((stepOn i .right .mark < 256) × (stepOn i .right .row < 65536)))
@@ -170,43 +165,38 @@ module _ (c : Context) (k : Clause) (a : List ℕ) (rows : length (c .rows) ≤ 
               (rw (new-plain (cell i 1) (cell i 4) l, new-plain (cell i 1) (cell i 5) l, new-plain (cell i 1) (cell i 6) l, new-plain (cell i 1) (cell i 7) l)
               (sym (renamed-plain (newOf news) (stepOn i) l)))
 
-    written-steps : (o : Out) → ((r : ℕ) → newOf (o .news) r < 4294967296) → (i : ℕ) → i < n → o .next < length (o .firsts) → o .next < length (o .seconds)
-        → o .next < length (o .thirds)
+    -- the words of step i, by new numbers
+    abbrev wordsFor : List ℕ → ℕ → List ℕ
+    wordsFor news i =
+        wordsOf (wordIn (length (c .rows)) (ownerAt from owner i) (cell i 1) (cell i 2) (cell i 3)) (numbersWord news (cell i 1) (cell i 4) (cell i 5))
+        (numbersWord news (cell i 1) (cell i 6) (cell i 7))
+
+    written-steps : (o : Out) → ((r : ℕ) → newOf (o .news) r < 4294967296) → (i : ℕ) → i < n → o .next < length (o .steps)
         → stepsIn (written (length (c .rows)) from owner cells i o) ≡ stepsIn o ++ (renamed (newOf (o .news)) (stepAt steps i) ∷ [])
     unfolding stepsIn written
-    written-steps o fits i h r₁ r₂ r₃ =
+    written-steps o fits i h r =
         let z : o .next + 1 ≡ suc (o .next) = omega arith in
-        let v₁ : ℕ = wordIn (length (c .rows)) (ownerAt from owner i) (cell i 1) (cell i 2) (cell i 3) in
-        let v₂ : ℕ = numbersWord (o .news) (cell i 1) (cell i 4) (cell i 5) in
-        let v₃ : ℕ = numbersWord (o .news) (cell i 1) (cell i 6) (cell i 7) in
-        rw (z, take-suc-set (o .firsts) (o .next) v₁ r₁, take-suc-set (o .seconds) (o .next) v₂ r₂, take-suc-set (o .thirds) (o .next) v₃ r₃)
-        (stepsFrom-snoc (take (o .next) (o .firsts)) (take (o .next) (o .seconds)) (take (o .next) (o .thirds)) v₁ v₂ v₃
-        (omega (arith, length-take (o .next) (o .firsts), length-take (o .next) (o .seconds)))
-        (omega (arith, length-take (o .next) (o .seconds), length-take (o .next) (o .thirds)))
+        rw (z, take-suc-set (o .steps) (o .next) (wordsFor (o .news) i) r)
+        (stepsOf-snoc (take (o .next) (o .steps)) (wordsFor (o .news) i)
         ∙ ap (λ (s : Step). stepsIn o ++ (s ∷ []))
         (words-step (o .news) fits i h ∙ ap (renamed (newOf (o .news))) (sym (draft-at (length (c .rows)) from owner cells i h))))
 
     -- ---- all steps
 
-    module _ (fits : n ≤ 16384) (marks : List ℕ) (closed : Closed c k a steps (kept marks)) (o₀ : Out) where
+    module _ (marks : List ℕ) (closed : Closed c k a steps (kept marks)) (o₀ : Out) where
       -- after the first m steps
       pub record Emitting (m : ℕ) (o : Out) : Type 0 where
         pub sends : Sending c k a (draft (length (c .rows)) from owner cells) (kept marks) (o₀ .news) (stepsIn o₀) m (o .news) (stepsIn o)
         pub counted : length (stepsIn o) ≡ o .next
-        pub rest₁ : drop (o .next) (o .firsts) ≡ drop (o .next) (o₀ .firsts)
-        pub rest₂ : drop (o .next) (o .seconds) ≡ drop (o .next) (o₀ .seconds)
-        pub rest₃ : drop (o .next) (o .thirds) ≡ drop (o .next) (o₀ .thirds)
-        pub long₁ : length (o .firsts) ≡ length (o₀ .firsts)
-        pub long₂ : length (o .seconds) ≡ length (o₀ .seconds)
-        pub long₃ : length (o .thirds) ≡ length (o₀ .thirds)
+        pub rest : drop (o .next) (o .steps) ≡ drop (o .next) (o₀ .steps)
+        pub long : length (o .steps) ≡ length (o₀ .steps)
 
       -- there is room for all of them
       pub record Room : Type 0 where
         pub counted : length (stepsIn o₀) ≡ o₀ .next
         pub few : o₀ .next + n < 4294967296
-        pub first : o₀ .next + n ≤ length (o₀ .firsts)
-        pub second : o₀ .next + n ≤ length (o₀ .seconds)
-        pub third : o₀ .next + n ≤ length (o₀ .thirds)
+        pub numbers : n < length (o₀ .news)
+        pub space : o₀ .next + n ≤ length (o₀ .steps)
 
       module _ (room : Room) where
         new-fits : (m : ℕ) → m < n → (o : Out) → Emitting m o → (r : ℕ) → newOf (o .news) r < 4294967296
@@ -224,26 +214,13 @@ module _ (c : Context) (k : Clause) (a : List ℕ) (rows : length (c .rows) ≤ 
             record {
               sends =
                   subst₂ (Sending c k a steps (kept marks) (o₀ .news) (stepsIn o₀) (suc m)) named (sym more)
-                  (sending-send c k a steps (kept marks) (o₀ .news) (stepsIn o₀) closed (omega (arith, all)) m (omega (arith, all)) (o .news) (stepsIn o) (w .sends) e z
+                  (sending-send c k a steps (kept marks) (o₀ .news) (stepsIn o₀) closed (omega (arith, all, room .numbers)) m (omega (arith, all)) (o .news) (stepsIn o) (w .sends) e z
                   (follow m (omega (arith, all))));
               counted = ap length more ∙ length-snoc (stepsIn o) (renamed (newOf (o .news)) (stepAt steps m)) ∙ omega (arith, w .counted);
-              rest₁ = drop-later (o .firsts) (o₀ .firsts) (o .next) v₁ (w .rest₁);
-              rest₂ = drop-later (o .seconds) (o₀ .seconds) (o .next) v₂ (w .rest₂);
-              rest₃ = drop-later (o .thirds) (o₀ .thirds) (o .next) v₃ (w .rest₃);
-              long₁ = length-set (o .firsts) (o .next) v₁ ∙ w .long₁;
-              long₂ = length-set (o .seconds) (o .next) v₂ ∙ w .long₂;
-              long₃ = length-set (o .thirds) (o .next) v₃ ∙ w .long₃;
+              rest = drop-later (o .steps) (o₀ .steps) (o .next) (wordsFor (o .news) m) (w .rest);
+              long = length-set (o .steps) (o .next) (wordsFor (o .news) m) ∙ w .long;
             }
           where
-            v₁ : ℕ
-            v₁ = wordIn (length (c .rows)) (ownerAt from owner m) (cell m 1) (cell m 2) (cell m 3)
-
-            v₂ : ℕ
-            v₂ = numbersWord (o .news) (cell m 1) (cell m 4) (cell m 5)
-
-            v₃ : ℕ
-            v₃ = numbersWord (o .news) (cell m 1) (cell m 6) (cell m 7)
-
             all : length steps ≡ n
             all = length-draft (length (c .rows)) from owner cells
 
@@ -251,9 +228,7 @@ module _ (c : Context) (k : Clause) (a : List ℕ) (rows : length (c .rows) ≤ 
             inside = omega (arith, w .sends .most, w .counted, room .counted)
 
             more : stepsIn (written (length (c .rows)) from owner cells m o) ≡ stepsIn o ++ (renamed (newOf (o .news)) (stepAt steps m) ∷ [])
-            more =
-                written-steps o (new-fits m h o w) m h (omega (arith, inside, w .long₁, room .first)) (omega (arith, inside, w .long₂, room .second))
-                (omega (arith, inside, w .long₃, room .third))
+            more = written-steps o (new-fits m h o w) m h (omega (arith, inside, w .long, room .space))
 
             named : set (o .news) (suc m) (suc (length (stepsIn o))) ≡ set (o .news) (m + 1) (o .next + 1)
             named = ap₂ (set (o .news)) (omega arith) (omega (arith, w .counted))
@@ -263,12 +238,8 @@ module _ (c : Context) (k : Clause) (a : List ℕ) (rows : length (c .rows) ≤ 
             record {
               sends = sending-skip c k a steps (kept marks) (o₀ .news) (stepsIn o₀) m (o .news) (stepsIn o) (w .sends) skip;
               counted = w .counted;
-              rest₁ = w .rest₁;
-              rest₂ = w .rest₂;
-              rest₃ = w .rest₃;
-              long₁ = w .long₁;
-              long₂ = w .long₂;
-              long₃ = w .long₃;
+              rest = w .rest;
+              long = w .long;
             }
 
         emit-next : (m : ℕ) → m < n → (o : Out) → Emitting m o → Emitting (suc m) (sendOne (length (c .rows)) from owner cells marks m o)
@@ -300,4 +271,4 @@ module _ (c : Context) (k : Clause) (a : List ℕ) (rows : length (c .rows) ≤ 
         unfolding sent
         emitted-all s =
             emit-to n (omega arith)
-            (record { sends = s; counted = room .counted; rest₁ = refl; rest₂ = refl; rest₃ = refl; long₁ = refl; long₂ = refl; long₃ = refl })
+            (record { sends = s; counted = room .counted; rest = refl; long = refl })

@@ -19,10 +19,12 @@ use Rattle.meaning.specs.Context.{Row}
 use Rattle.meaning.specs.Rules.{Literal}
 use Rattle.meaning.specs.Grounds.{Step, Conclusion, stepAt, numberIn, literalAt}
 use Rattle.meaning.specs.GroundColumns.{conclusionFrom}
+use Rattle.runs.specs.Limits.{mostLiterals}
+use Rattle.grounding.specs.Limits.{numberRun}
 use Rattle.grounding.specs.Draft.{countIn}
 use Rattle.grounding.specs.Classes.{State, upto}
 use Rattle.grounding.specs.Concluding.{Said, said, resumed, ownerOf}
-use Rattle.batches.specs.Sending.{newOf, Out, batch}
+use Rattle.batches.specs.Sending.{newOf, Out, outOf, batch}
 
 pub record Drawn : Type 0 where
   pub cells : List ℕ
@@ -30,15 +32,10 @@ pub record Drawn : Type 0 where
   pub ends : List ℕ
   pub differences : List ℕ
 
--- before the first: a column, and three columns of words
-unfoldable pub blankDrawn : List ℕ → List ℕ → List ℕ → List ℕ → Drawn
-blankDrawn cells firsts seconds thirds =
-    record {
-      cells = cells;
-      out = record { news = replicate 16385 0; next = 0; firsts = firsts; seconds = seconds; thirds = thirds };
-      ends = replicate 16 0;
-      differences = replicate 16 0;
-    }
+-- before the first: a column, and the words of steps
+unfoldable pub blankDrawn : List ℕ → List (List ℕ) → Drawn
+blankDrawn cells steps =
+    record { cells = cells; out = outOf (replicate numberRun 0) 0 steps; ends = replicate mostLiterals 0; differences = replicate mostLiterals 0 }
 
 -- literal j, counted from 0, by what is said for it
 unfoldable pub drawSaid : ℕ → ℕ → ℕ → ℕ → Said → Drawn → Drawn
@@ -61,8 +58,8 @@ module _ (n : ℕ) (ks : List Row) (ns : List ℕ) (rows : ℕ) (diffs : List (�
   unfoldable pub drawnTo : ℕ → Drawn → Drawn
   drawnTo j d = upto j drawOne d
 
-  unfoldable pub drawn : List ℕ → List ℕ → List ℕ → Drawn
-  drawn firsts seconds thirds = drawnTo (length ls) (blankDrawn (closed .cells) firsts seconds thirds)
+  unfoldable pub drawn : List (List ℕ) → Drawn
+  drawn steps = drawnTo (length ls) (blankDrawn (closed .cells) steps)
 
 abbrev pub endWritten : Drawn → ℕ → Conclusion
 endWritten d j = conclusionFrom (d .ends) (d .differences) j

@@ -9,6 +9,7 @@ use mathlib.Core.List.{List}
 use Prim.Native.Nat.{ℕ, zero, suc, _+_, _*_}
 use lib.Dec.{eqb, ltb, leb}
 use lib.ListN.{getD, set, replicate}
+use Rattle.grounding.specs.Limits.{draftSize}
 use Rattle.grounding.specs.Draft.{countIn}
 
 unfoldable pub kept : List ℕ → ℕ → Bool
@@ -25,7 +26,7 @@ notedFour limit l p marks =
 unfoldable pub markOne : List ℕ → ℕ → List ℕ → List ℕ
 markOne cells i marks =
     elim (kept marks (i + 1)) [
-      | true ↦ elim (ltb 2 (getD cells (i * 7 + 1) 0)) [ true ↦ notedFour i cells (i * 7 + 4) marks | false ↦ marks ]
+      | true ↦ elim (ltb 2 (getD cells (i * draftSize + 1) 0)) [ true ↦ notedFour i cells (i * draftSize + 4) marks | false ↦ marks ]
       | false ↦ marks
     ]
 
@@ -34,4 +35,4 @@ marked cells zero marks = marks
 marked cells (suc n) marks = marked cells n (markOne cells n marks)
 
 unfoldable pub markedFor : List ℕ → ℕ → List ℕ
-markedFor cells s = marked cells (countIn cells) (noted (countIn cells) s (replicate 16385 0))
+markedFor cells s = marked cells (countIn cells) (noted (countIn cells) s (replicate (countIn cells + 1) 0))

@@ -1,7 +1,7 @@
 -- Steps of a column, numbered anew and written as words behind those written before.
 --     newOf, newIn         a number's new one, 0 where it has none; what a step's number becomes
 --     wordOf, twoIn        a step's owner, kind and sides in a word; two numbers in a word
---     Out, stepsIn         new numbers, and three columns of words, of which the first ones are written; the steps that these hold
+--     Out, outOf, stepsIn  new numbers, and the words of steps, of which the first ones are written; made of these; the steps that they hold
 --     forgotten            shared steps keep their new numbers, and the others have none
 --     written              one step more
 --     sendOne, sent        a step that is marked and has no new number; so many of a column
@@ -10,14 +10,15 @@
 -- Assumes nothing.
 use mathlib.Core.Bool.{true, false}
 use mathlib.Core.List.{List}
-use Prim.Native.Nat.{ℕ, _+_, _*_, _≤_, _<_}
+use Prim.Native.Nat.{ℕ, _+_, _*_, _-_, _≤_, _<_}
 use lib.Dec.{eqb, ltb}
-use lib.ListN.{getD, set, take}
 use Rattle.meaning.specs.Grounds.{Step}
-use Rattle.meaning.specs.GroundColumns.{stepsFrom}
-use Rattle.grounding.specs.Draft.{refOf, countIn, ownerAt}
+use Rattle.grounds_steps.specs.Steps.{wordsOf, stepsOf}
+use Rattle.grounding.specs.Limits.{draftSize}
+use Rattle.grounding.specs.Draft.{refOf, countIn, ownerAt, cellIn}
 use Rattle.grounding.specs.Classes.{upto}
 use Rattle.batches.specs.Marking.{kept, markedFor}
+use lib.ListN.{length, getD, set, take}
 
 -- ---- words of 64 bits
 
@@ -44,34 +45,35 @@ numbersWord news kind a b = twoIn (newIn news kind a) (newIn news kind b)
 
 -- ---- one batch
 
--- a place for each number of a column, and words, of which so many are written
+-- a place for each number of a column, and three words for each step, of which so many are written
 pub record Out : Type 0 where
   pub news : List ℕ
   pub next : ℕ
-  pub firsts : List ℕ
-  pub seconds : List ℕ
-  pub thirds : List ℕ
+  pub steps : List (List ℕ)
+
+abbrev pub outOf : List ℕ → ℕ → List (List ℕ) → Out
+outOf news next steps = record { news = news; next = next; steps = steps }
 
 unfoldable pub stepsIn : Out → List Step
-stepsIn o = stepsFrom (take (o .next) (o .firsts)) (take (o .next) (o .seconds)) (take (o .next) (o .thirds))
+stepsIn o = stepsOf (take (o .next) (o .steps))
 
 -- the number of step i, counted from 0, where it is not shared
 unfoldable pub forgetOne : ℕ → ℕ → List ℕ → List ℕ
 forgetOne from i news = elim (ltb i from) [ true ↦ news | false ↦ set news (i + 1) 0 ]
 
 unfoldable pub forgotten : ℕ → List ℕ → List ℕ
-forgotten from news = upto 16384 (forgetOne from) news
+forgotten from news = upto (length news - 1) (forgetOne from) news
 
 -- step i of a column
 unfoldable pub written : ℕ → ℕ → ℕ → List ℕ → ℕ → Out → Out
 written rows from owner cells i o =
-    let kind : ℕ = getD cells (i * 7 + 1) 0 in
     record {
       news = set (o .news) (i + 1) (o .next + 1);
       next = o .next + 1;
-      firsts = set (o .firsts) (o .next) (wordIn rows (ownerAt from owner i) kind (getD cells (i * 7 + 2) 0) (getD cells (i * 7 + 3) 0));
-      seconds = set (o .seconds) (o .next) (numbersWord (o .news) kind (getD cells (i * 7 + 4) 0) (getD cells (i * 7 + 5) 0));
-      thirds = set (o .thirds) (o .next) (numbersWord (o .news) kind (getD cells (i * 7 + 6) 0) (getD cells (i * 7 + 7) 0));
+      steps = set (o .steps) (o .next)
+          (wordsOf (wordIn rows (ownerAt from owner i) (cellIn cells i 1) (cellIn cells i 2) (cellIn cells i 3))
+          (numbersWord (o .news) (cellIn cells i 1) (cellIn cells i 4) (cellIn cells i 5))
+          (numbersWord (o .news) (cellIn cells i 1) (cellIn cells i 6) (cellIn cells i 7)));
     }
 
 unfoldable pub sendOne : ℕ → ℕ → ℕ → List ℕ → List ℕ → ℕ → Out → Out
@@ -86,7 +88,7 @@ unfoldable pub sent : ℕ → ℕ → ℕ → List ℕ → List ℕ → ℕ → 
 sent rows from owner cells marks n o = upto n (sendOne rows from owner cells marks) o
 
 unfoldable pub resent : ℕ → Out → Out
-resent from o = record { news = forgotten from (o .news); next = o .next; firsts = o .firsts; seconds = o .seconds; thirds = o .thirds }
+resent from o = outOf (forgotten from (o .news)) (o .next) (o .steps)
 
 -- the first steps of a column are shared, and the others an owner's; step s, and what it rests on
 unfoldable pub batch : ℕ → ℕ → ℕ → List ℕ → ℕ → Out → Out
@@ -94,4 +96,4 @@ batch rows from owner cells s o = sent rows from owner cells (markedFor cells s)
 
 -- the places of each step of a column are of 16 bits
 pub record Small (cells : List ℕ) : Type 0 where
-  pub places : (i : ℕ) → i < countIn cells → (j : ℕ) → 0 < j → j ≤ 7 → getD cells (i * 7 + j) 0 < 65536
+  pub places : (i : ℕ) → i < countIn cells → (j : ℕ) → 0 < j → j ≤ draftSize → cellIn cells i j < 65536

@@ -1,28 +1,26 @@
--- Steps in three columns of words, as the code writes them.
+-- Steps in a run of words, as the code writes them.
 --     Through   a loop over the steps: the first so many are sent
 --     Clearing  a loop over new numbers: those of steps before i are forgotten, as far as they are not shared
 --     mine      what the functions of the root leave to show
 -- Assumes nothing.
 use mathlib.Core.Bool.{Bool, true, false}
-use mathlib.Core.List.{List}
+use mathlib.Core.List.{List, _∷_}
 use mathlib.Core.Path.{_≡_, refl, ap, sym, _∙_, subst}
 use mathlib.Core.Logic.{_⊎_, inl, inr}
-use Prim.Native.Nat.{ℕ, zero, suc, _+_, _*_, _≤_, _<_}
+use Prim.Native.Nat.{ℕ, zero, suc, _+_, _-_, _*_, _≤_, _<_}
 use native.Mathlib.Numerals.{add-one}
 use native.Mathlib.Omega.{arith}
 use lib.Dec.{eqb}
-use lib.ListN.{length, getD, set, length-set}
-use lib.Seq.{set-out}
+use lib.ListN.{length, getD, set, take, replicate, length-set, length-take, length-replicate}
 use borrow.Author.Needs.{needs}
 use borrow.Author.Tests.{eq-eqb, ne-eqb, eqb-true, eqb-false, lt-ltb, le-ltb}
-use Rattle.grounding.specs.Draft.{countIn, ownerAt}
+use Rattle.grounds_steps.specs.Steps.{wordsOf}
+use Rattle.grounding.specs.Limits.{draftSize, numberRun}
+use Rattle.grounding.specs.Draft.{countIn, cellIn, ownerAt}
 use Rattle.grounding.specs.Classes.{upto}
 use Rattle.batches.specs.Marking.{kept, markedFor}
-use Rattle.batches.specs.Sending.{wordIn, numbersWord, Out, forgetOne, forgotten, written, sendOne, sent, resent, batch}
-use Rattle.emitting.specs.Emitting.{Kinded, SidesAt, NumbersAt, Holds, Narrow, SendsOne, Sends, Batched}
-
-pub put-past : (l : List ℕ) (at x : ℕ) → length l ≤ at → l ≡ set l at x
-put-past l at x h = sym (set-out l at x h)
+use Rattle.batches.specs.Sending.{wordIn, numbersWord, Out, outOf, forgetOne, forgotten, written, sendOne, sent, resent, batch}
+use Rattle.emitting.specs.Emitting.{SidesAt, NumbersAt, Short, Reaches, SendsOne, Sends, Batched, Sendable}
 
 -- ---- a step
 
@@ -50,153 +48,126 @@ pub numbers-at : (cells news : List ℕ) (k p q : ℕ) {kind a b r : ℕ} → ki
     → NumbersAt cells news k p q r
 numbers-at cells news k p q e f m g n w = record { word = rw (sym e, sym f, sym g) w; first = omega arith; second = omega arith }
 
-module _ (rows from owner : ℕ) (cells marks news : List ℕ) (i next : ℕ) {o x y z : ℕ} (a : o ≡ ownerAt from owner i) (s : SidesAt cells rows o (i * 7) x)
-    (t : NumbersAt cells news (i * 7 + 1) (i * 7 + 4) (i * 7 + 5) y) (u : NumbersAt cells news (i * 7 + 1) (i * 7 + 6) (i * 7 + 7) z) (firsts seconds thirds : List ℕ) where
-  narrow : Narrow cells i
-  narrow zero h l = absurd (omega arith)
-  narrow (suc zero) h l = s .kind
-  narrow (suc (suc zero)) h l = s .left
-  narrow (suc (suc (suc zero))) h l = s .right
-  narrow (suc (suc (suc (suc zero)))) h l = t .first
-  narrow (suc (suc (suc (suc (suc zero))))) h l = t .second
-  narrow (suc (suc (suc (suc (suc (suc zero)))))) h l = u .first
-  narrow (suc (suc (suc (suc (suc (suc (suc zero))))))) h l = u .second
-  narrow (suc (suc (suc (suc (suc (suc (suc (suc j)))))))) h l = absurd (omega arith)
+module _ (cells marks news : List ℕ) (i : ℕ) (r : Reaches cells marks news i) where
+  pub reaches-places : i * draftSize + draftSize < length cells
+  reaches-places = r .places
 
-  abbrev start : Out
-  start = record { news = news; next = next; firsts = firsts; seconds = seconds; thirds = thirds }
+  pub reaches-mark : i + 1 < length marks
+  reaches-mark = r .mark
+
+  pub reaches-number : i + 1 < length news
+  reaches-number = r .number
+
+module _ (rows from owner : ℕ) (cells marks news : List ℕ) (i next : ℕ) {o x y z : ℕ} (a : o ≡ ownerAt from owner i) (s : SidesAt cells rows o (i * draftSize) x)
+    (t : NumbersAt cells news (i * draftSize + 1) (i * draftSize + 4) (i * draftSize + 5) y)
+    (u : NumbersAt cells news (i * draftSize + 1) (i * draftSize + 6) (i * draftSize + 7) z) (steps : List (List ℕ)) where
+  short : Short cells i
+  short zero h l = absurd (omega arith)
+  short (suc zero) h l = s .kind
+  short (suc (suc zero)) h l = s .left
+  short (suc (suc (suc zero))) h l = s .right
+  short (suc (suc (suc (suc zero)))) h l = t .first
+  short (suc (suc (suc (suc (suc zero))))) h l = t .second
+  short (suc (suc (suc (suc (suc (suc zero)))))) h l = u .first
+  short (suc (suc (suc (suc (suc (suc (suc zero))))))) h l = u .second
+  short (suc (suc (suc (suc (suc (suc (suc (suc j)))))))) h l = absurd (omega arith)
 
   is-kept : (getD marks (i + 1) 0 ≡ 0 → ⊥) → kept marks (i + 1) ≡ true
   unfolding kept
   is-kept d = rw (ne-eqb (getD marks (i + 1) 0) 0 d)
 
-  pub send-none : getD marks (i + 1) 0 ≡ 0 → SendsOne rows from owner cells marks i start news next firsts seconds thirds
+  pub send-none : getD marks (i + 1) 0 ≡ 0 → SendsOne rows from owner cells marks i (outOf news next steps) (outOf news next steps)
   unfolding sendOne kept
-  send-none e =
-      let k : kept marks (i + 1) ≡ false = rw (eq-eqb (getD marks (i + 1) 0) 0 e) in
-      record { out = rw (k, sendOne) (record { numbers = refl; last = refl; first = refl; second = refl; third = refl }); narrow = narrow }
+  send-none e = let k : kept marks (i + 1) ≡ false = rw (eq-eqb (getD marks (i + 1) 0) 0 e) in record { out = rw (k, sendOne); short = short }
 
-  pub send-old : (getD marks (i + 1) 0 ≡ 0 → ⊥) → (getD news (i + 1) 0 ≡ 0 → ⊥) → SendsOne rows from owner cells marks i start news next firsts seconds thirds
+  pub send-old : (getD marks (i + 1) 0 ≡ 0 → ⊥) → (getD news (i + 1) 0 ≡ 0 → ⊥)
+      → SendsOne rows from owner cells marks i (outOf news next steps) (outOf news next steps)
   unfolding sendOne
-  send-old d e =
-      record {
-        out = rw (is-kept d, ne-eqb (getD news (i + 1) 0) 0 e, sendOne) (record { numbers = refl; last = refl; first = refl; second = refl; third = refl });
-        narrow = narrow;
-      }
+  send-old d e = record { out = rw (is-kept d, ne-eqb (getD news (i + 1) 0) 0 e, sendOne); short = short }
 
-  pub send-new : {news′ : List ℕ} {next′ : ℕ} {firsts′ seconds′ thirds′ : List ℕ} → (getD marks (i + 1) 0 ≡ 0 → ⊥) → getD news (i + 1) 0 ≡ 0
-      → Holds news′ next′ firsts′ seconds′ thirds′
-      (record { news = set news (i + 1) (next + 1); next = next + 1; firsts = set firsts next x; seconds = set seconds next y; thirds = set thirds next z })
-      → SendsOne rows from owner cells marks i start news′ next′ firsts′ seconds′ thirds′
+  pub send-new : {after : Out} → (getD marks (i + 1) 0 ≡ 0 → ⊥) → getD news (i + 1) 0 ≡ 0
+      → after ≡ outOf (set news (i + 1) (next + 1)) (next + 1) (set steps next (wordsOf x y z))
+      → SendsOne rows from owner cells marks i (outOf news next steps) after
   unfolding sendOne written
   send-new d e h =
       record {
-        out = rw (is-kept d, eq-eqb (getD news (i + 1) 0) 0 e, sendOne, sym a, sym (s .word), sym (t .word), sym (u .word)) h;
-        narrow = narrow;
+        out = h ∙ rw (is-kept d, eq-eqb (getD news (i + 1) 0) 0 e, sendOne, sym a, sym (s .word), sym (t .word), sym (u .word));
+        short = short;
       }
+
+pub step-written : (news : List ℕ) (next : ℕ) (steps : List (List ℕ)) (words : List ℕ) {steps′ : List (List ℕ)} → steps′ ≡ set steps next words
+    → outOf news (next + 1) steps′ ≡ outOf news (next + 1) (set steps next words)
+step-written news next steps words e = ap (outOf news (next + 1)) e
 
 -- ---- all steps
 
-send-most : (rows from owner : ℕ) (cells marks : List ℕ) (i : ℕ) (o : Out) → sendOne rows from owner cells marks i o .next ≤ o .next + 1
+-- one step more at the most, and as many places as before
+record Kept (before after : Out) : Type 0 where
+  most : after .next ≤ before .next + 1
+  numbers : length (after .news) ≡ length (before .news)
+  long : length (after .steps) ≡ length (before .steps)
+
+one-kept : (rows from owner : ℕ) (cells marks : List ℕ) (i : ℕ) (o : Out) → Kept o (sendOne rows from owner cells marks i o)
 unfolding sendOne written
-send-most rows from owner cells marks i o = go (kept marks (i + 1)) refl (eqb (getD (o .news) (i + 1) 0) 0) refl
+one-kept rows from owner cells marks i o = go (kept marks (i + 1)) refl (eqb (getD (o .news) (i + 1) 0) 0) refl
   where
-    go : (b : Bool) → kept marks (i + 1) ≡ b → (d : Bool) → eqb (getD (o .news) (i + 1) 0) 0 ≡ d → sendOne rows from owner cells marks i o .next ≤ o .next + 1
-    go true e true f = rw (e, f, sendOne) (omega arith)
-    go true e false f = rw (e, f, sendOne) (omega arith)
-    go false e d f = rw (e, sendOne) (omega arith)
+    go : (b : Bool) → kept marks (i + 1) ≡ b → (d : Bool) → eqb (getD (o .news) (i + 1) 0) 0 ≡ d → Kept o (sendOne rows from owner cells marks i o)
+    go true e true f = rw (e, f, sendOne) (record { most = omega arith; numbers = length-set (o .news) _ _; long = length-set (o .steps) _ _ })
+    go true e false f = rw (e, f, sendOne) (record { most = omega arith; numbers = refl; long = refl })
+    go false e d f = rw (e, sendOne) (record { most = omega arith; numbers = refl; long = refl })
 
-pub record Through (rows from owner : ℕ) (cells marks : List ℕ) (n : ℕ) (start : Out) (news : List ℕ) (next : ℕ) (firsts seconds thirds : List ℕ) (i : ℕ) : Type 0 where
-  pub so : Sends rows from owner cells marks i start news next firsts seconds thirds
+pub record Through (rows from owner : ℕ) (cells marks : List ℕ) (n : ℕ) (start after : Out) (i : ℕ) : Type 0 where
+  pub so : Sends rows from owner cells marks i start after
   pub reach : i ≤ n
-  pub most : next ≤ start .next + i
+  pub most : after .next ≤ start .next + i
+  pub numbers : length (after .news) ≡ length (start .news)
+  pub long : length (after .steps) ≡ length (start .steps)
 
-pub through-start : (rows from owner : ℕ) (cells marks : List ℕ) (n : ℕ) (news : List ℕ) (next : ℕ) (firsts seconds thirds : List ℕ)
-    → Through rows from owner cells marks n (record { news = news; next = next; firsts = firsts; seconds = seconds; thirds = thirds }) news next firsts seconds thirds 0
+pub through-start : (rows from owner : ℕ) (cells marks : List ℕ) (n : ℕ) (o : Out) → Through rows from owner cells marks n o o 0
 unfolding sent upto
-through-start rows from owner cells marks n news next firsts seconds thirds =
-    record {
-      so = record { out = record { numbers = refl; last = refl; first = refl; second = refl; third = refl }; narrow = λ i h. absurd (omega arith) };
-      reach = omega arith;
-      most = omega arith;
-    }
+through-start rows from owner cells marks n o =
+    record { so = record { out = refl; short = λ i h. absurd (omega arith) }; reach = omega arith; most = omega arith; numbers = refl; long = refl }
 
-holds-is : {news : List ℕ} {next : ℕ} {firsts seconds thirds : List ℕ} {o : Out} → Holds news next firsts seconds thirds o
-    → o ≡ record { news = news; next = next; firsts = firsts; seconds = seconds; thirds = thirds }
-holds-is h = rw (h .numbers, h .last, h .first, h .second, h .third)
-
-module _ {rows from owner : ℕ} {cells marks : List ℕ} {n : ℕ} {start : Out} {news : List ℕ} {next : ℕ} {firsts seconds thirds : List ℕ} {i : ℕ}
-    (w : Through rows from owner cells marks n start news next firsts seconds thirds i) where
-  pub through-next : {news′ : List ℕ} {next′ : ℕ} {firsts′ seconds′ thirds′ : List ℕ} → i < n
-      → SendsOne rows from owner cells marks i (record { news = news; next = next; firsts = firsts; seconds = seconds; thirds = thirds }) news′ next′ firsts′ seconds′ thirds′
-      → Through rows from owner cells marks n start news′ next′ firsts′ seconds′ thirds′ (i + 1)
+module _ {rows from owner : ℕ} {cells marks : List ℕ} {n : ℕ} {start after : Out} {i : ℕ} (w : Through rows from owner cells marks n start after i) where
+  pub through-next : {after′ : Out} → i < n → SendsOne rows from owner cells marks i after after′ → Through rows from owner cells marks n start after′ (i + 1)
   unfolding sent upto
-  through-next h e =
+  through-next {after′} h e =
       record {
-        so = record { out = rw (add-one, holds-is (w .so .out)) (e .out); narrow = λ j l. go j l (eqb j i) refl };
+        so = record { out = rw (add-one, sym (w .so .out)) (e .out); short = λ j l. go j l (eqb j i) refl };
         reach = omega arith;
-        most =
-            omega (
-              arith,
-              e .out .last,
-              send-most rows from owner cells marks i (record { news = news; next = next; firsts = firsts; seconds = seconds; thirds = thirds }),
-              w .most,
-            );
+        most = omega (arith, kept′ .most, w .most);
+        numbers = kept′ .numbers ∙ w .numbers;
+        long = kept′ .long ∙ w .long;
       }
     where
-      go : (j : ℕ) → j < i + 1 → (b : Bool) → eqb j i ≡ b → Narrow cells j
-      go j l true q = subst (Narrow cells) (sym (eqb-true j i q)) (e .narrow)
-      go j l false q = w .so .narrow j (omega (arith, eqb-false j i q))
+      kept′ : Kept after after′
+      kept′ = subst (Kept after) (sym (e .out)) (one-kept rows from owner cells marks i after)
 
-  pub through-done : n ≡ countIn cells → n ≤ i → Sends rows from owner cells marks (countIn cells) start news next firsts seconds thirds
-  through-done e h =
-      let z : i ≡ countIn cells = omega (arith, w .reach) in subst (λ (m : ℕ). Sends rows from owner cells marks m start news next firsts seconds thirds) z (w .so)
+      go : (j : ℕ) → j < i + 1 → (b : Bool) → eqb j i ≡ b → Short cells j
+      go j l true q = subst (Short cells) (sym (eqb-true j i q)) (e .short)
+      go j l false q = w .so .short j (omega (arith, eqb-false j i q))
 
--- ---- the columns keep their lengths
+  pub through-done : n ≡ countIn cells → n ≤ i → Sends rows from owner cells marks (countIn cells) start after
+  through-done e h = let z : i ≡ countIn cells = omega (arith, w .reach) in subst (λ (m : ℕ). Sends rows from owner cells marks m start after) z (w .so)
 
-record Long (v w : Out) : Type 0 where
-  first : length (w .firsts) ≡ length (v .firsts)
-  second : length (w .seconds) ≡ length (v .seconds)
-  third : length (w .thirds) ≡ length (v .thirds)
+-- what a turn asks
+module _ {rows from owner : ℕ} {cells marks : List ℕ} {n : ℕ} {news₀ : List ℕ} {next₀ : ℕ} {steps₀ : List (List ℕ)} {news : List ℕ} {next : ℕ} {steps : List (List ℕ)} {i : ℕ}
+    (w : Through rows from owner cells marks n (outOf news₀ next₀ steps₀) (outOf news next steps) i) where
+  pub numbers-long : length news ≡ length news₀
+  numbers-long = w .numbers
 
-module _ (rows from owner : ℕ) (cells marks : List ℕ) where
-  one-long : (i : ℕ) (o : Out) → Long o (sendOne rows from owner cells marks i o)
-  unfolding sendOne written
-  one-long i o = go (kept marks (i + 1)) refl (eqb (getD (o .news) (i + 1) 0) 0) refl
-    where
-      go : (b : Bool) → kept marks (i + 1) ≡ b → (d : Bool) → eqb (getD (o .news) (i + 1) 0) 0 ≡ d → Long o (sendOne rows from owner cells marks i o)
-      go true e true f = rw (e, f, sendOne) (record { first = length-set (o .firsts) _ _; second = length-set (o .seconds) _ _; third = length-set (o .thirds) _ _ })
-      go true e false f = rw (e, f, sendOne) (record { first = refl; second = refl; third = refl })
-      go false e d f = rw (e, sendOne) (record { first = refl; second = refl; third = refl })
+  pub steps-long : length steps ≡ length steps₀
+  steps-long = w .long
 
-  all-long : (n : ℕ) (o : Out) → Long o (sent rows from owner cells marks n o)
-  unfolding sent upto
-  all-long zero o = record { first = refl; second = refl; third = refl }
-  all-long (suc n) o =
-      let p : Long o (sent rows from owner cells marks n o) = all-long n o in
-      let q : Long (sent rows from owner cells marks n o) (sent rows from owner cells marks (suc n) o) = one-long n (sent rows from owner cells marks n o) in
-      record { first = q .first ∙ p .first; second = q .second ∙ p .second; third = q .third ∙ p .third }
+  module _ (e : n ≡ countIn cells) (l : i < n) (a : Sendable cells news₀ next₀) where
+    pub send-reaches : countIn cells < length marks → Reaches cells marks news i
+    send-reaches h = record { places = omega (arith, a .places); mark = omega arith; number = omega (arith, a .numbers, w .numbers) }
 
-  module _ (n i : ℕ) (ns : List ℕ) (m : ℕ) (fs ss ts news : List ℕ) (next : ℕ) (firsts seconds thirds : List ℕ)
-      (w : Through rows from owner cells marks n (record { news = ns; next = m; firsts = fs; seconds = ss; thirds = ts }) news next firsts seconds thirds i) where
-    abbrev before : Out
-    before = record { news = ns; next = m; firsts = fs; seconds = ss; thirds = ts }
+    pub send-kind : cellIn cells i 1 < 256
+    send-kind = a .kinded .kinds i (omega arith)
 
-    pub firsts-long : length firsts ≡ length fs
-    firsts-long = ap length (w .so .out .first) ∙ all-long i before .first
-
-    pub seconds-long : length seconds ≡ length ss
-    seconds-long = ap length (w .so .out .second) ∙ all-long i before .second
-
-    pub thirds-long : length thirds ≡ length ts
-    thirds-long = ap length (w .so .out .third) ∙ all-long i before .third
-
-module _ (cells : List ℕ) {n i : ℕ} (e : n ≡ countIn cells) (l : i < n) where
-  pub send-room : countIn cells ≤ 16384 → i < 16384
-  send-room h = omega arith
-
-  pub send-kind : Kinded cells → getD cells (i * 7 + 1) 0 < 256
-  send-kind h = h .kinds i (omega arith)
+    pub send-few : next + 1 < 4294967296
+    send-few = omega (arith, a .few, w .most)
 
 -- ---- new numbers that are forgotten
 
@@ -209,66 +180,116 @@ forget-past : (from : ℕ) (news : List ℕ) (n : ℕ) → from ≤ n → upto (
 unfolding upto forgetOne
 forget-past from news n h = rw (forgetOne, le-ltb n from h)
 
-pub record Clearing (from : ℕ) (start news : List ℕ) (i : ℕ) : Type 0 where
+pub record Clearing (from : ℕ) (start : List ℕ) (n : ℕ) (news : List ℕ) (i : ℕ) : Type 0 where
   pub so : news ≡ upto i (forgetOne from) start
   pub past : from ≤ i
-  pub reach : (i ≤ 16384) ⊎ (i ≡ from)
+  pub reach : (i ≤ n) ⊎ (i ≡ from)
+  pub long : length news ≡ length start
 
-pub clearing-start : (from : ℕ) (news : List ℕ) → Clearing from news news from
-clearing-start from news = record { so = sym (forget-below from news from (omega arith)); past = omega arith; reach = inr refl }
+pub clearing-start : (from : ℕ) (news : List ℕ) (n : ℕ) → Clearing from news n news from
+clearing-start from news n = record { so = sym (forget-below from news from (omega arith)); past = omega arith; reach = inr refl; long = refl }
 
-pub clearing-next : {from : ℕ} {start news : List ℕ} {i : ℕ} → Clearing from start news i → i < 16384 → Clearing from start (set news (i + 1) 0) (i + 1)
-clearing-next {from} {start} {news} {i} w h =
-    let z : suc i ≡ i + 1 = omega arith in
-    record {
-      so =
-          ap (λ (l : List ℕ). set l (i + 1) 0) (w .so)
-          ∙ sym (forget-past from start i (w .past))
-          ∙ ap (λ (m : ℕ). upto m (forgetOne from) start) z;
-      past = omega (arith, w .past);
-      reach = inl (omega arith);
-    }
+module _ {from : ℕ} {start : List ℕ} {n : ℕ} {news : List ℕ} {i : ℕ} (w : Clearing from start n news i) where
+  pub clearing-next : i < n → Clearing from start n (set news (i + 1) 0) (i + 1)
+  clearing-next h =
+      let z : suc i ≡ i + 1 = omega arith in
+      record {
+        so =
+            ap (λ (l : List ℕ). set l (i + 1) 0) (w .so)
+            ∙ sym (forget-past from start i (w .past))
+            ∙ ap (λ (m : ℕ). upto m (forgetOne from) start) z;
+        past = omega (arith, w .past);
+        reach = inl (omega arith);
+        long = length-set news (i + 1) 0 ∙ w .long;
+      }
 
-pub clearing-done : {from : ℕ} {start news : List ℕ} {i : ℕ} → Clearing from start news i → 16384 ≤ i → news ≡ forgotten from start
-unfolding forgotten
-clearing-done {from} {start} {news} {i} w h = go (w .reach)
-  where
-    go : (i ≤ 16384) ⊎ (i ≡ from) → news ≡ upto 16384 (forgetOne from) start
-    go (inl l) = let z : i ≡ 16384 = omega arith in w .so ∙ ap (λ (m : ℕ). upto m (forgetOne from) start) z
-    go (inr e) = w .so ∙ forget-below from start i (omega arith) ∙ sym (forget-below from start 16384 (omega arith))
+  pub clearing-room : i < n → n ≡ length start - 1 → i + 1 < length news
+  clearing-room h e = omega (arith, w .long)
+
+  pub clearing-long : length news ≡ length start
+  clearing-long = w .long
+
+  pub clearing-done : n ≡ length start - 1 → n ≤ i → news ≡ forgotten from start
+  unfolding forgotten
+  clearing-done e h = go (w .reach)
+    where
+      go : (i ≤ n) ⊎ (i ≡ from) → news ≡ upto (length start - 1) (forgetOne from) start
+      go (inl l) = let z : i ≡ length start - 1 = omega arith in w .so ∙ ap (λ (m : ℕ). upto m (forgetOne from) start) z
+      go (inr q) = w .so ∙ forget-below from start i (omega arith) ∙ sym (forget-below from start (length start - 1) (omega arith))
 
 -- ---- a batch
 
-pub batch-all : (rows from owner : ℕ) (cells : List ℕ) (s : ℕ) (news : List ℕ) (next : ℕ) (firsts seconds thirds : List ℕ) {cleared marks news′ : List ℕ} {next′ : ℕ} {firsts′ seconds′ thirds′ : List ℕ}
-    → cleared ≡ forgotten from news
+take-zeros : (n k : ℕ) → n ≤ k → _≡_ {A = List ℕ} (take n (replicate k 0)) (replicate n 0)
+take-zeros zero k h = refl
+take-zeros (suc n) zero h = absurd (omega arith)
+take-zeros (suc n) (suc k) h = ap (λ (l : List ℕ). 0 ∷ l) (take-zeros n k (omega arith))
+
+module _ (cells news : List ℕ) (next : ℕ) (a : Sendable cells news next) where
+  pub batch-first : 0 < length cells
+  batch-first = omega (arith, a .places)
+
+  pub batch-numbers : 0 < length news
+  batch-numbers = omega (arith, a .numbers)
+
+  pub batch-places : countIn cells * draftSize < length cells
+  batch-places = a .places
+
+  pub batch-again : {cleared : List ℕ} → length cleared ≡ length news → Sendable cells cleared next
+  batch-again e = record { places = a .places; most = a .most; numbers = omega (arith, a .numbers); kinded = a .kinded; few = a .few }
+
+  pub batch-marks : {n : ℕ} → n ≡ countIn cells → n + 1 ≤ numberRun
+  batch-marks e = omega (arith, a .most)
+
+  pub batch-zeros : {n : ℕ} → n ≡ countIn cells → _≡_ {A = List ℕ} (take (n + 1) (replicate numberRun 0)) (replicate (countIn cells + 1) 0)
+  batch-zeros e = ap (λ (i : ℕ). take {A = ℕ} (i + 1) (replicate numberRun 0)) e ∙ take-zeros (countIn cells + 1) numberRun (omega (arith, a .most))
+
+  pub batch-counted : {n : ℕ} → n ≡ countIn cells → n + 1 ≡ length (take {A = ℕ} (n + 1) (replicate numberRun 0))
+  batch-counted {n} e = omega (arith, a .most, length-take {A = ℕ} (n + 1) (replicate numberRun 0), length-replicate {A = ℕ} numberRun 0)
+
+pub marks-all : (cells marks after : List ℕ) → marks ≡ replicate (countIn cells + 1) 0 → length after ≡ length marks → countIn cells < length after
+marks-all cells marks after e l = omega (arith, ap length e, length-replicate {A = ℕ} (countIn cells + 1) 0)
+
+pub batch-all : (rows from owner : ℕ) (cells : List ℕ) (s : ℕ) (news : List ℕ) (next : ℕ) (steps : List (List ℕ)) {cleared marks : List ℕ} {after : Out} → cleared ≡ forgotten from news
     → marks ≡ markedFor cells s
-    → Sends rows from owner cells marks (countIn cells) (record { news = cleared; next = next; firsts = firsts; seconds = seconds; thirds = thirds }) news′ next′ firsts′ seconds′ thirds′
-    → Batched rows from owner cells s (record { news = news; next = next; firsts = firsts; seconds = seconds; thirds = thirds }) news′ next′ firsts′ seconds′ thirds′
+    → Sends rows from owner cells marks (countIn cells) (outOf cleared next steps) after
+    → Batched rows from owner cells s (outOf news next steps) after
 unfolding batch resent
-batch-all rows from owner cells s news next firsts seconds thirds e f w =
-    record { out = rw (sym e, sym f) (w .out); small = record { places = w .narrow } }
+batch-all rows from owner cells s news next steps e f w = record { out = rw (sym e, sym f) (w .out); small = record { places = w .short } }
 
 pub ruleset mine = (
   needs,
-  put-past,
   owner-shared,
   owner-own,
   sides-at,
   sides-kind,
   numbers-at,
+  reaches-places,
+  reaches-mark,
+  reaches-number,
   send-none,
   send-old,
   send-new,
+  step-written,
   through-start,
   through-next,
   through-done,
-  firsts-long,
-  seconds-long,
-  thirds-long,
-  send-room,
+  numbers-long,
+  steps-long,
+  send-reaches,
   send-kind,
+  send-few,
   clearing-start,
   clearing-next,
+  clearing-room,
+  clearing-long,
   clearing-done,
+  batch-first,
+  batch-numbers,
+  batch-places,
+  batch-again,
+  batch-marks,
+  batch-zeros,
+  batch-counted,
+  marks-all,
   batch-all,
 )

@@ -50,9 +50,9 @@ module _ (rows x : ℕ) {i : ℕ} where
   unfolding refOf
   row-pattern h e l = record { value = rw (le-ltb x rows (subst (λ (j : ℕ). rows ≤ j) e h), refOf) (ap (λ (j : ℕ). j - rows) e); most = omega arith }
 
-pub word-in : (rows owner kind x y : ℕ) {n o k mark row mark′ row′ : ℕ} → n ≡ rows → o ≡ owner → k ≡ kind → MarkOf n x mark → RowOf n x row → MarkOf n y mark′ → RowOf n y row′
+pub word-in : (rows owner kind x y : ℕ) {o k mark row mark′ row′ : ℕ} → o ≡ owner → k ≡ kind → MarkOf rows x mark → RowOf rows x row → MarkOf rows y mark′ → RowOf rows y row′
     → o * 72057594037927936 + k * 281474976710656 + (mark * 1099511627776 + row * 16777216) + (mark′ * 65536 + row′) ≡ wordIn rows owner kind x y
-word-in rows owner kind x y d c e f g h l = rw (sym d, sym c, sym e, sym (f .value), sym (g .value), sym (h .value), sym (l .value)) (omega arith)
+word-in rows owner kind x y c e f g h l = rw (sym c, sym e, sym (f .value), sym (g .value), sym (h .value), sym (l .value)) (omega arith)
 
 pub ruleset mine = (
   needs,

@@ -17,7 +17,7 @@ use Rattle.meaning.specs.Sheet.{bytes}
 use Rattle.verifier.specs.declared.Conclusions.{Conclusions}
 use Rattle.reply_lines.specs.Pieces.{run}
 use Rattle.reply_lines.specs.Prints.{Prints}
-use Rattle.writer.specs.Claims.{most, space}
+use Rattle.grounds_steps.specs.Steps.{mostSteps}
 use Rattle.writer.proofs.Controls.{lullaby, lullaby-short, reply-is, no-stepless}
 use Rattle.framing.specs.Lines.{sizeAt}
 use Rattle.framing.specs.Filling.{stepCount, itemCount, lineIn, framesFrom, Fills}
@@ -36,41 +36,41 @@ size-some n p = go (ltb p n) refl
     go false e = omega (arith, size-end n p (ltb-false p n e))
 
 -- frames with a line are not empty
-run-some : (firsts seconds thirds : List ℕ) (steps : ℕ) (d : Conclusions) (k : ℕ) → 0 < k → run (lineIn firsts seconds thirds steps d) 0 k ≡ [] → ⊥
+run-some : (steps : List (List ℕ)) (many : ℕ) (d : Conclusions) (k : ℕ) → 0 < k → run (lineIn steps many d) 0 k ≡ [] → ⊥
 unfolding run
-run-some firsts seconds thirds steps d zero h e = omega arith
-run-some firsts seconds thirds steps d (suc k) h e =
-    let n : ℕ = stepCount firsts seconds thirds steps in
+run-some steps many d zero h e = omega arith
+run-some steps many d (suc k) h e =
+    let n : ℕ = stepCount steps many in
     omega (
       arith,
       ap length e,
-      length-append (lineIn firsts seconds thirds steps d 0) (run (lineIn firsts seconds thirds steps d) 1 k),
-      length-item firsts seconds thirds n d 0,
+      length-append (lineIn steps many d 0) (run (lineIn steps many d) 1 k),
+      length-item steps n d 0,
       size-some n 0,
     )
 
-module _ (firsts seconds thirds : List ℕ) (roomy : most ≤ space firsts seconds thirds) (o : Opened) where
-  pub some-line : (x y z : List ℕ) → Opens lullaby firsts seconds thirds o x y z → Prints (bytes "08020001\n") (o .line .bytes) (o .line .len)
+module _ (steps : List (List ℕ)) (roomy : mostSteps ≤ length steps) (o : Opened) where
+  pub some-line : (x : List (List ℕ)) → Opens lullaby steps o x → Prints (bytes "08020001\n") (o .line .bytes) (o .line .len)
   unfolding printed frame hex digitOf codeOf valuesOf bytes
-  some-line x y z (long h p e) = absurd (omega (arith, lullaby-short))
-  some-line x y z (replies few r a b c w p e) =
-      subst (λ (u : Reply). Prints (printed u) (o .line .bytes) (o .line .len)) (reply-is firsts seconds thirds roomy r a b c w) p
+  some-line x (long h p e) = absurd (omega (arith, lullaby-short))
+  some-line x (replies few r a w p e) =
+      subst (λ (u : Reply). Prints (printed u) (o .line .bytes) (o .line .len)) (reply-is steps roomy r a w) p
 
-  pub no-frameless : (x y z : List ℕ) → Opens lullaby firsts seconds thirds o x y z → framesFrom x y z (o .steps) (o .conclusions) (o .literals) 0 ≡ [] → ⊥
-  no-frameless x y z (long h p e) f = omega (arith, lullaby-short)
-  no-frameless x y z (replies few r a b c w p e) f =
-      run-some a b c (o .steps) (o .conclusions) (itemCount a b c (o .steps) (o .literals) - 0)
-      (omega (arith, opened-steps lullaby firsts seconds thirds o a b c roomy (replies few r a b c w p e), some (o .steps) refl))
+  pub no-frameless : (x : List (List ℕ)) → Opens lullaby steps o x → framesFrom x (o .steps) (o .conclusions) (o .literals) 0 ≡ [] → ⊥
+  no-frameless x (long h p e) f = omega (arith, lullaby-short)
+  no-frameless x (replies few r a w p e) f =
+      run-some a (o .steps) (o .conclusions) (itemCount a (o .steps) (o .literals) - 0)
+      (omega (arith, opened-steps lullaby steps o a roomy (replies few r a w p e), some (o .steps) refl))
       f
     where
       some : (n : ℕ) → o .steps ≡ n → 0 < o .steps
-      some zero q = absurd (no-stepless firsts seconds thirds roomy r a b c w (sym (e .steps) ∙ q))
+      some zero q = absurd (no-stepless steps roomy r a w (sym (e .steps) ∙ q))
       some (suc n) q = omega arith
 
-pub no-idle : (firsts seconds thirds : List ℕ) (steps : ℕ) (d : Conclusions) (literals from : ℕ) (lent : List ℕ) (r : Filled) (after : List ℕ) → 51 ≤ length lent
-    → from < itemCount firsts seconds thirds steps literals
-    → Fills firsts seconds thirds steps d literals from lent r after
+pub no-idle : (steps : List (List ℕ)) (many : ℕ) (d : Conclusions) (literals from : ℕ) (lent : List ℕ) (r : Filled) (after : List ℕ) → 51 ≤ length lent
+    → from < itemCount steps many literals
+    → Fills steps many d literals from lent r after
     → r .next ≡ from
     → ⊥
-no-idle firsts seconds thirds steps d literals from lent r after room left w e =
-    omega (arith, w .next, fills-on firsts seconds thirds steps d literals from (length lent) room left)
+no-idle steps many d literals from lent r after room left w e =
+    omega (arith, w .next, fills-on steps many d literals from (length lent) room left)

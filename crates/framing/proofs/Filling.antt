@@ -59,9 +59,9 @@ module _ (piece : ℕ → List ℕ) where
 
 -- ---- the loop
 
-module _ (firsts seconds thirds : List ℕ) (n : ℕ) (d : Conclusions) (from end : ℕ) (lent : List ℕ) where
+module _ (steps : List (List ℕ)) (n : ℕ) (d : Conclusions) (from end : ℕ) (lent : List ℕ) where
   abbrev piece : ℕ → List ℕ
-  piece = itemFrame firsts seconds thirds n d
+  piece = itemFrame steps n d
 
   pub record Filling (used at : ℕ) (after : List ℕ) : Type 0 where
     pub count : ℕ
@@ -102,7 +102,7 @@ module _ (firsts seconds thirds : List ℕ) (n : ℕ) (d : Conclusions) (from en
         }
       where
         long : length (piece at) ≡ len
-        long = length-item firsts seconds thirds n d at ∙ sym s
+        long = length-item steps n d at ∙ sym s
 
         one : run piece from (suc (f .count)) ≡ run piece from (f .count) ++ piece at
         one = run-snoc piece from (f .count) ∙ ap (λ (i : ℕ). run piece from (f .count) ++ piece i) (sym (f .place))
@@ -116,44 +116,42 @@ module _ (firsts seconds thirds : List ℕ) (n : ℕ) (d : Conclusions) (from en
             ∙ ap₂ (λ (i j : ℕ). suc (fitting piece i j (end - (at + 1)))) b (sym (add-one at))
 
     -- the lines end here
-    ends : fitting piece (length lent - used) at (end - at) ≡ 0 → (steps literals : ℕ) → n ≡ stepCount firsts seconds thirds steps
-        → end ≡ itemCount firsts seconds thirds steps literals
-        → Fills firsts seconds thirds steps d literals from lent (record { used = used; next = at }) after
-    ends e steps literals en ee =
+    ends : fitting piece (length lent - used) at (end - at) ≡ 0 → (many literals : ℕ) → n ≡ stepCount steps many
+        → end ≡ itemCount steps many literals
+        → Fills steps many d literals from lent (record { used = used; next = at }) after
+    ends e many literals en ee =
         record {
           next = f .place ∙ ap (λ (k : ℕ). from + k) (sym counted);
           used = f .size ∙ ap length (sym written);
           stored = f .stored ∙ sets-eq (run piece from (f .count)) lent 0 (omega (arith, f .size, f .within)) ∙ ap₂ (λ (l : List ℕ) (k : ℕ). l ++ drop k lent) (sym written) front;
         }
       where
-        counted : countFrom firsts seconds thirds steps d literals from (length lent) ≡ f .count
+        counted : countFrom steps many d literals from (length lent) ≡ f .count
         counted =
-            ap₂ (λ (i j : ℕ). fitting (itemFrame firsts seconds thirds i d) (length lent) from (j - from)) (sym en) (sym ee) ∙ f .onward ∙ omega (arith, e)
+            ap₂ (λ (i j : ℕ). fitting (itemFrame steps i d) (length lent) from (j - from)) (sym en) (sym ee) ∙ f .onward ∙ omega (arith, e)
 
         front : 0 + length (run piece from (f .count)) ≡ used
         front = omega (arith, f .size)
 
-        written : fillsFrom firsts seconds thirds steps d literals from (length lent) ≡ run piece from (f .count)
-        written = ap₂ (λ (i k : ℕ). run (itemFrame firsts seconds thirds i d) from k) (sym en) counted
+        written : fillsFrom steps many d literals from (length lent) ≡ run piece from (f .count)
+        written = ap₂ (λ (i k : ℕ). run (itemFrame steps i d) from k) (sym en) counted
 
-    pub filling-wait : (len : ℕ) → len ≡ sizeAt n at → length after - used < len → (steps literals : ℕ) → n ≡ stepCount firsts seconds thirds steps
-        → end ≡ itemCount firsts seconds thirds steps literals
-        → Fills firsts seconds thirds steps d literals from lent (record { used = used; next = at }) after
+    pub filling-wait : (len : ℕ) → len ≡ sizeAt n at → length after - used < len → (many literals : ℕ) → n ≡ stepCount steps many
+        → end ≡ itemCount steps many literals
+        → Fills steps many d literals from lent (record { used = used; next = at }) after
     filling-wait len s short =
-        ends (fitting-short piece (length lent - used) at (end - at) (omega (arith, length-item firsts seconds thirds n d at, f .long)))
+        ends (fitting-short piece (length lent - used) at (end - at) (omega (arith, length-item steps n d at, f .long)))
 
-    pub filling-done : end ≤ at → (steps literals : ℕ) → n ≡ stepCount firsts seconds thirds steps → end ≡ itemCount firsts seconds thirds steps literals
-        → Fills firsts seconds thirds steps d literals from lent (record { used = used; next = at }) after
+    pub filling-done : end ≤ at → (many literals : ℕ) → n ≡ stepCount steps many → end ≡ itemCount steps many literals
+        → Fills steps many d literals from lent (record { used = used; next = at }) after
     unfolding fitting
     filling-done h = let e : end - at ≡ 0 = omega arith in ends (ap (fitting piece (length lent - used) at) e)
 
-    pub filling-room : at < end → (len : ℕ) → len ≡ sizeAt n at → len ≤ length after - used → (steps literals : ℕ)
-        → n ≡ stepCount firsts seconds thirds steps → end ≡ itemCount firsts seconds thirds steps literals → ItemRoom firsts seconds thirds n at after used
-    filling-room h len s room steps literals en ee =
+    pub filling-room : at < end → (len : ℕ) → len ≡ sizeAt n at → len ≤ length after - used → (many literals : ℕ)
+        → n ≡ stepCount steps many → end ≡ itemCount steps many literals → ItemRoom steps n at after used
+    filling-room h len s room many literals en ee =
         record {
-          first = omega arith;
-          second = omega arith;
-          third = omega arith;
+          inside = omega arith;
           few = omega arith;
           room = omega (arith, f .within, f .long);
         }
@@ -162,36 +160,36 @@ pub ruleset mine = (needs, filling-start, filling-next, filling-wait, filling-do
 
 -- ---- what the contract says
 
-module _ (firsts seconds thirds : List ℕ) (steps : ℕ) (d : Conclusions) (literals from : ℕ) where
-  pub fills-one : (lent : List ℕ) (q r : Filled) (a b : List ℕ) → Fills firsts seconds thirds steps d literals from lent q a
-      → Fills firsts seconds thirds steps d literals from lent r b → (q ≡ r) × (a ≡ b)
+module _ (steps : List (List ℕ)) (many : ℕ) (d : Conclusions) (literals from : ℕ) where
+  pub fills-one : (lent : List ℕ) (q r : Filled) (a b : List ℕ) → Fills steps many d literals from lent q a
+      → Fills steps many d literals from lent r b → (q ≡ r) × (a ≡ b)
   fills-one lent q r a b v w =
       let u : q .used ≡ r .used = v .used ∙ sym (w .used) in (
         ap₂ (λ (i j : ℕ). record { used = i; next = j }) u (v .next ∙ sym (w .next)),
-        v .stored ∙ ap (λ (i : ℕ). fillsFrom firsts seconds thirds steps d literals from (length lent) ++ drop i lent) u ∙ sym (w .stored),
+        v .stored ∙ ap (λ (i : ℕ). fillsFrom steps many d literals from (length lent) ++ drop i lent) u ∙ sym (w .stored),
       )
 
-  pub fills-rest : (room : ℕ) → framesFrom firsts seconds thirds steps d literals from
-      ≡ fillsFrom firsts seconds thirds steps d literals from room
-      ++ framesFrom firsts seconds thirds steps d literals (from + countFrom firsts seconds thirds steps d literals from room)
+  pub fills-rest : (room : ℕ) → framesFrom steps many d literals from
+      ≡ fillsFrom steps many d literals from room
+      ++ framesFrom steps many d literals (from + countFrom steps many d literals from room)
   fills-rest room =
-      let k : ℕ = countFrom firsts seconds thirds steps d literals from room in
-      let m : ℕ = itemCount firsts seconds thirds steps literals in
-      let h : k ≤ m - from = fitting-few (lineIn firsts seconds thirds steps d) room from (m - from) in
+      let k : ℕ = countFrom steps many d literals from room in
+      let m : ℕ = itemCount steps many literals in
+      let h : k ≤ m - from = fitting-few (lineIn steps many d) room from (m - from) in
       let e : m - from ≡ k + (m - (from + k)) = omega arith in
-      ap (run (lineIn firsts seconds thirds steps d) from) e ∙ run-append (lineIn firsts seconds thirds steps d) from k (m - (from + k))
+      ap (run (lineIn steps many d) from) e ∙ run-append (lineIn steps many d) from k (m - (from + k))
 
-  pub fills-on : (room : ℕ) → 51 ≤ room → from < itemCount firsts seconds thirds steps literals → 0 < countFrom firsts seconds thirds steps d literals from room
+  pub fills-on : (room : ℕ) → 51 ≤ room → from < itemCount steps many literals → 0 < countFrom steps many d literals from room
   fills-on room h l =
-      let m : ℕ = itemCount firsts seconds thirds steps literals in
+      let m : ℕ = itemCount steps many literals in
       let e : m - from ≡ suc (m - (from + 1)) = omega arith in
-      rw e (rw (fitting-next (lineIn firsts seconds thirds steps d) room from (m - (from + 1)) (omega (arith, short from))) (omega arith))
+      rw e (rw (fitting-next (lineIn steps many d) room from (m - (from + 1)) (omega (arith, short from))) (omega arith))
     where
-      short : (p : ℕ) → length (lineIn firsts seconds thirds steps d p) ≤ 51
-      short p = go (ltb p (stepCount firsts seconds thirds steps)) refl
+      short : (p : ℕ) → length (lineIn steps many d p) ≤ 51
+      short p = go (ltb p (stepCount steps many)) refl
         where
-          go : (t : Bool) → ltb p (stepCount firsts seconds thirds steps) ≡ t → length (lineIn firsts seconds thirds steps d p) ≤ 51
+          go : (t : Bool) → ltb p (stepCount steps many) ≡ t → length (lineIn steps many d p) ≤ 51
           go true e =
-              omega (arith, length-item firsts seconds thirds (stepCount firsts seconds thirds steps) d p, size-step (stepCount firsts seconds thirds steps) p (ltb-true p (stepCount firsts seconds thirds steps) e))
+              omega (arith, length-item steps (stepCount steps many) d p, size-step (stepCount steps many) p (ltb-true p (stepCount steps many) e))
           go false e =
-              omega (arith, length-item firsts seconds thirds (stepCount firsts seconds thirds steps) d p, size-end (stepCount firsts seconds thirds steps) p (ltb-false p (stepCount firsts seconds thirds steps) e))
+              omega (arith, length-item steps (stepCount steps many) d p, size-end (stepCount steps many) p (ltb-false p (stepCount steps many) e))

@@ -17,6 +17,8 @@ use lib.Seq.{sets, length-sets}
 use Rattle.meaning.specs.Writing.{hex, frame}
 use Rattle.meaning.specs.Grounds.{Conclusion}
 use Rattle.meaning.specs.GroundColumns.{conclusionFrom}
+use Rattle.runs.specs.Limits.{mostLiterals}
+use Rattle.grounds_steps.specs.Steps.{wordIn}
 use Rattle.verifier.specs.declared.Conclusions.{Conclusions}
 use Rattle.reply_lines.proofs.Stores.{sets-append}
 use Rattle.reply_lines.proofs.Lines.{hex-append, length-hex, length-frame}
@@ -125,49 +127,44 @@ pub size-end : (n p : ℕ) → n ≤ p → 27 ≡ sizeAt n p
 unfolding sizeAt
 size-end n p h = rw (sizeAt, le-ltb p n h) refl
 
-module _ (firsts seconds thirds : List ℕ) (n : ℕ) (d : Conclusions) (p : ℕ) where
-  pub step-item : p < n → stepFrame (getD firsts p 0) (getD seconds p 0) (getD thirds p 0) ≡ itemFrame firsts seconds thirds n d p
+module _ (steps : List (List ℕ)) (n : ℕ) (d : Conclusions) (p : ℕ) where
+  pub step-item : p < n → stepFrame (wordIn steps p 0) (wordIn steps p 1) (wordIn steps p 2) ≡ itemFrame steps n d p
   unfolding itemFrame
   step-item h = rw (itemFrame, lt-ltb p n h) refl
 
-  pub end-item : n ≤ p → endFrame (endOf d (p - n)) ≡ itemFrame firsts seconds thirds n d p
+  pub end-item : n ≤ p → endFrame (endOf d (p - n)) ≡ itemFrame steps n d p
   unfolding itemFrame
   end-item h = rw (itemFrame, le-ltb p n h) refl
 
-  pub length-item : length (itemFrame firsts seconds thirds n d p) ≡ sizeAt n p
+  pub length-item : length (itemFrame steps n d p) ≡ sizeAt n p
   length-item = go (ltb p n) refl
     where
-      go : (t : Bool) → ltb p n ≡ t → length (itemFrame firsts seconds thirds n d p) ≡ sizeAt n p
+      go : (t : Bool) → ltb p n ≡ t → length (itemFrame steps n d p) ≡ sizeAt n p
       go true e =
           let h : p < n = ltb-true p n e in
-          sym (ap length (step-item h)) ∙ length-step (getD firsts p 0) (getD seconds p 0) (getD thirds p 0) ∙ size-step n p h
+          sym (ap length (step-item h)) ∙ length-step (wordIn steps p 0) (wordIn steps p 1) (wordIn steps p 2) ∙ size-step n p h
       go false e =
           let h : n ≤ p = ltb-false p n e in sym (ap length (end-item h)) ∙ length-end (endOf d (p - n)) ∙ size-end n p h
 
-  pub item-step : (l m : List ℕ) (at : ℕ) → p < n → m ≡ sets l at (stepFrame (getD firsts p 0) (getD seconds p 0) (getD thirds p 0))
-      → m ≡ sets l at (itemFrame firsts seconds thirds n d p)
-  item-step l m at h e = e ∙ ap (sets l at) (step-item h)
+  pub item-step : (l m : List ℕ) (at : ℕ) {x y z : ℕ} → p < n → x ≡ wordIn steps p 0 → y ≡ wordIn steps p 1 → z ≡ wordIn steps p 2
+      → m ≡ sets l at (stepFrame x y z)
+      → m ≡ sets l at (itemFrame steps n d p)
+  item-step l m at h ex ey ez e = e ∙ rw (ex, ey, ez) (ap (sets l at) (step-item h))
 
-  pub item-end : (l m : List ℕ) (at : ℕ) → n ≤ p → m ≡ sets l at (endFrame (endOf d (p - n))) → m ≡ sets l at (itemFrame firsts seconds thirds n d p)
+  pub item-end : (l m : List ℕ) (at : ℕ) → n ≤ p → m ≡ sets l at (endFrame (endOf d (p - n))) → m ≡ sets l at (itemFrame steps n d p)
   item-end l m at h e = e ∙ ap (sets l at) (end-item h)
 
-module _ (firsts seconds thirds : List ℕ) (n p : ℕ) (lent : List ℕ) (at : ℕ) (r : ItemRoom firsts seconds thirds n p lent at) where
-  pub room-first : p < n → p < length firsts
-  room-first h = omega (arith, r .first)
-
-  pub room-second : p < n → p < length seconds
-  room-second h = omega (arith, r .second)
-
-  pub room-third : p < n → p < length thirds
-  room-third h = omega (arith, r .third)
+module _ (steps : List (List ℕ)) (n p : ℕ) (lent : List ℕ) (at : ℕ) (r : ItemRoom steps n p lent at) where
+  pub room-inside : p < n → p < length steps
+  room-inside h = omega (arith, r .inside)
 
   pub room-step : p < n → at + 51 ≤ length lent
   room-step h = omega (arith, r .room, size-step n p h)
 
-  pub room-few : n ≤ p → p - n < 16
+  pub room-few : n ≤ p → p - n < mostLiterals
   room-few h = omega (arith, r .few)
 
   pub room-end : n ≤ p → at + 27 ≤ length lent
   room-end h = omega (arith, r .room, size-end n p h)
 
-pub ruleset mine = (needs, two-stored, last-stored, last-inside, step-stored, cited-stored, end-stored, end-fields, size-step, size-end, item-step, item-end, room-first, room-second, room-third, room-step, room-few, room-end)
+pub ruleset mine = (needs, two-stored, last-stored, last-inside, step-stored, cited-stored, end-stored, end-fields, size-step, size-end, item-step, item-end, room-inside, room-step, room-few, room-end)

@@ -28,7 +28,8 @@ use Rattle.printing.specs.Claims.{PrintsFound}
 use Rattle.printing.proofs.Printing.{prints-reply}
 use Rattle.verifier.specs.declared.Conclusions.{Conclusions}
 use Rattle.writer.specs.Claims as W
-use Rattle.writer.specs.Claims.{most, noConclusions, space, Answers, Bare, Leaves, Writes}
+use Rattle.grounds_steps.specs.Steps.{mostSteps}
+use Rattle.writer.specs.Claims.{noConclusions, Answers, Bare, Leaves, Writes}
 use Rattle.writer.specs.declared.Grounds.{Grounds}
 use Rattle.framing.specs.declared.opening.Opened.{Opened}
 use Rattle.framing.specs.Filling.{stepCount, itemCount, lineIn, framesFrom}
@@ -77,64 +78,64 @@ module _ (input : List ℕ) (r : Line) (few : length input ≤ inputLimit) (outc
 
 -- ---- the ways out
 
-module _ (input firsts seconds thirds : List ℕ) (line : Line) (conclusions : Conclusions) where
+module _ (input : List ℕ) (steps : List (List ℕ)) (line : Line) (conclusions : Conclusions) where
   pub opened-long : inputLimit < length input → Prints (printed (refused (refusal 11 0))) (line .bytes) (line .len) → conclusions ≡ noConclusions
-      → Opens input firsts seconds thirds (record { line = line; steps = 0; literals = 0; conclusions = conclusions }) firsts seconds thirds
+      → Opens input steps (record { line = line; steps = 0; literals = 0; conclusions = conclusions }) steps
   opened-long h p e = long h p (record { steps = refl; literals = refl; conclusions = e })
 
-pub opened-written : (input firsts seconds thirds firsts′ seconds′ thirds′ : List ℕ) (line : Line) (r : Grounds) → length input ≤ inputLimit
-    → Writes input firsts seconds thirds r firsts′ seconds′ thirds′ → Prints (lineBy (r .outcome) (r .places)) (line .bytes) (line .len)
-    → Opens input firsts seconds thirds (record { line = line; steps = r .steps; literals = r .literals; conclusions = r .conclusions }) firsts′ seconds′ thirds′
-opened-written input firsts seconds thirds firsts′ seconds′ thirds′ line r few w p =
-    replies few r firsts′ seconds′ thirds′ w
-    (line-told input line few (r .outcome) (r .places) p (space firsts seconds thirds) (w .reply) (w .answers) (w .told) (w .places))
+pub opened-written : (input : List ℕ) (steps : List (List ℕ)) (steps′ : List (List ℕ)) (line : Line) (r : Grounds) → length input ≤ inputLimit
+    → Writes input steps r steps′ → Prints (lineBy (r .outcome) (r .places)) (line .bytes) (line .len)
+    → Opens input steps (record { line = line; steps = r .steps; literals = r .literals; conclusions = r .conclusions }) steps′
+opened-written input steps steps′ line r few w p =
+    replies few r steps′ w
+    (line-told input line few (r .outcome) (r .places) p (length steps) (w .reply) (w .answers) (w .told) (w .places))
     (record { steps = refl; literals = refl; conclusions = refl })
 
 pub ruleset mine = (needs, opened-long, opened-written)
 
 -- ---- what is printed
 
-module _ (input firsts seconds thirds : List ℕ) (o : Opened) where
-  pub opened-found : (firsts′ seconds′ thirds′ : List ℕ) → most ≤ space firsts seconds thirds → Opens input firsts seconds thirds o firsts′ seconds′ thirds′ → PrintsFound input (o .line)
-  opened-found firsts′ seconds′ thirds′ room (long h p e) = record { line = printed (refused (refusal 11 0)); prints = R.long h; front = p }
-  opened-found firsts′ seconds′ thirds′ room (replies few r a b c w p e) = go (w .reply) (w .answers) p
+module _ (input : List ℕ) (steps : List (List ℕ)) (o : Opened) where
+  pub opened-found : (steps′ : List (List ℕ)) → mostSteps ≤ length steps → Opens input steps o steps′ → PrintsFound input (o .line)
+  opened-found steps′ room (long h p e) = record { line = printed (refused (refusal 11 0)); prints = R.long h; front = p }
+  opened-found steps′ room (replies few r a w p e) = go (w .reply) (w .answers) p
     where
-      go : (y : Reply) → Answers input (space firsts seconds thirds) y → Prints (printed y) (o .line .bytes) (o .line .len) → PrintsFound input (o .line)
+      go : (y : Reply) → Answers input (length steps) y → Prints (printed y) (o .line .bytes) (o .line .len) → PrintsFound input (o .line)
       go y (W.refuses f v) q = record { line = printed (refused f); prints = R.replies few (refused f) v; front = q }
       go y (W.lacks f v h) q = absurd (omega arith)
       go y (W.replies f v h) q = record { line = printed (R.replyOf f); prints = R.replies few (R.replyOf f) v; front = q }
 
   -- no line
-  frames-none : (firsts′ seconds′ thirds′ : List ℕ) → o .steps ≡ 0 → o .literals ≡ 0 → framesFrom firsts′ seconds′ thirds′ (o .steps) (o .conclusions) (o .literals) 0 ≡ []
+  frames-none : (steps′ : List (List ℕ)) → o .steps ≡ 0 → o .literals ≡ 0 → framesFrom steps′ (o .steps) (o .conclusions) (o .literals) 0 ≡ []
   unfolding run
-  frames-none firsts′ seconds′ thirds′ p q =
-      let e : itemCount firsts′ seconds′ thirds′ (o .steps) (o .literals) - 0 ≡ 0 = omega arith in
-      ap (run (lineIn firsts′ seconds′ thirds′ (o .steps) (o .conclusions)) 0) e
+  frames-none steps′ p q =
+      let e : itemCount steps′ (o .steps) (o .literals) - 0 ≡ 0 = omega arith in
+      ap (run (lineIn steps′ (o .steps) (o .conclusions)) 0) e
 
-  pub opened-alone : (firsts′ seconds′ thirds′ : List ℕ) → Opens input firsts seconds thirds o firsts′ seconds′ thirds′ → ((a : List ℕ) → Replies narrow input (breach a) → ⊥)
-      → framesFrom firsts′ seconds′ thirds′ (o .steps) (o .conclusions) (o .literals) 0 ≡ []
-  opened-alone firsts′ seconds′ thirds′ (long h p e) none-found = frames-none firsts seconds thirds (e .steps) (e .literals)
-  opened-alone firsts′ seconds′ thirds′ (replies few r a b c w p e) none-found = go (w .reply) (w .answers) (w .leaves)
+  pub opened-alone : (steps′ : List (List ℕ)) → Opens input steps o steps′ → ((a : List ℕ) → Replies narrow input (breach a) → ⊥)
+      → framesFrom steps′ (o .steps) (o .conclusions) (o .literals) 0 ≡ []
+  opened-alone steps′ (long h p e) none-found = frames-none steps (e .steps) (e .literals)
+  opened-alone steps′ (replies few r a w p e) none-found = go (w .reply) (w .answers) (w .leaves)
     where
-      bare : Bare firsts seconds thirds r a b c → framesFrom a b c (o .steps) (o .conclusions) (o .literals) 0 ≡ []
-      bare x = frames-none a b c (e .steps ∙ x .steps) (e .literals ∙ x .literals)
+      bare : Bare steps r a → framesFrom a (o .steps) (o .conclusions) (o .literals) 0 ≡ []
+      bare x = frames-none a (e .steps ∙ x .count) (e .literals ∙ x .literals)
 
-      go : (y : Reply) → Answers input (space firsts seconds thirds) y → Leaves firsts seconds thirds r a b c input y
-          → framesFrom a b c (o .steps) (o .conclusions) (o .literals) 0 ≡ []
+      go : (y : Reply) → Answers input (length steps) y → Leaves steps r a input y
+          → framesFrom a (o .steps) (o .conclusions) (o .literals) 0 ≡ []
       go y (W.refuses f v) x = bare x
       go y (W.lacks f v h) x = bare x
       go y (W.replies (found z) v h) x = absurd (none-found z v)
       go y (W.replies nothing v h) x = bare x
 
-  pub opened-steps : (firsts′ seconds′ thirds′ : List ℕ) → most ≤ space firsts seconds thirds → Opens input firsts seconds thirds o firsts′ seconds′ thirds′
-      → stepCount firsts′ seconds′ thirds′ (o .steps) ≡ o .steps
-  opened-steps firsts′ seconds′ thirds′ room (long h p e) = omega (arith, e .steps)
-  opened-steps firsts′ seconds′ thirds′ room (replies few r a b c w p e) = go (w .reply) (w .leaves)
+  pub opened-steps : (steps′ : List (List ℕ)) → mostSteps ≤ length steps → Opens input steps o steps′
+      → stepCount steps′ (o .steps) ≡ o .steps
+  opened-steps steps′ room (long h p e) = omega (arith, e .steps)
+  opened-steps steps′ room (replies few r a w p e) = go (w .reply) (w .leaves)
     where
-      bare : Bare firsts seconds thirds r a b c → stepCount a b c (o .steps) ≡ o .steps
-      bare x = omega (arith, e .steps, x .steps)
+      bare : Bare steps r a → stepCount a (o .steps) ≡ o .steps
+      bare x = omega (arith, e .steps, x .count)
 
-      go : (y : Reply) → Leaves firsts seconds thirds r a b c input y → stepCount a b c (o .steps) ≡ o .steps
-      go (breach z) x = omega (arith, e .steps, x .shown .few, x .shown .first .long, x .shown .second .long, x .shown .third .long)
+      go : (y : Reply) → Leaves steps r a input y → stepCount a (o .steps) ≡ o .steps
+      go (breach z) x = omega (arith, e .steps, x .shown .few, x .shown .words .long)
       go none x = bare x
       go (refused f) x = bare x

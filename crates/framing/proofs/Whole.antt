@@ -1,34 +1,42 @@
--- The frames as `verify` reads them: the columns and the conclusions that they were written from.
---     Words, Narrows                                   columns of 64-bit words; conclusions whose fields fit on their lines
---     frames-firsts, frames-seconds, frames-thirds     the words of the steps
---     frames-conclusions                               the conclusions
+-- The frames as `verify` reads them: the words and the conclusions that they were written from.
+--     Words, Narrows         words of 64 bits; conclusions whose fields fit on their lines
+--     frames-words           the words of the steps
+--     frames-conclusions     the conclusions
 -- Assumes nothing.
 use mathlib.Core.List.{List, [], _∷_, _++_, append-nil, append-assoc}
 use mathlib.Core.Path.{_≡_, refl, sym, ap, ap₂, _∙_}
 use Prim.Native.Nat.{ℕ, zero, suc, _+_, _-_, _≤_, _<_, min}
 use native.Mathlib.Omega.{arith}
-use lib.ListN.{length, getD, take, drop}
+use lib.ListN.{length, getD, take, drop, length-map}
 use lib.Seq.{drop-cons}
 use Rattle.meaning.specs.Text.{Line, linesFrom, linesOf}
 use Rattle.meaning.specs.Writing.{hex}
 use Rattle.meaning.specs.Grounds.{Conclusion}
 use Rattle.meaning.specs.GroundColumns.{conclusionsFrom}
+use Rattle.runs.specs.Limits.{mostLiterals}
+use Rattle.grounds_steps.specs.Steps.{wordIn}
 use Rattle.meaning.proofs.Lines.{whole, frame-line}
 use Rattle.verifier.specs.declared.Conclusions.{Conclusions}
 use Rattle.reply_lines.specs.Pieces.{run}
 use Rattle.reply_lines.proofs.Running.{run-snoc}
 use Rattle.intake.specs.Parsing.{goodLine, digitsOf, wordOf, wordsIn, conclusionsIn}
+use Rattle.writer.proofs.Answers.{columnOf}
 use Rattle.framing.specs.Lines.{stepBytes, stepFrame, endBytes, endFrame, endOf, itemFrame}
 use Rattle.framing.specs.Filling.{stepCount, itemCount, lineIn, framesFrom}
 use Rattle.framing.proofs.Frames.{step-item, end-item}
 use Rattle.framing.proofs.Filling.{run-append}
 use Rattle.framing.proofs.Readback.{step-concludes, step-first, step-second, step-third, Narrow, end-concludes, end-back}
 
-abbrev pub Words : List ℕ → Type 0
-Words l = (p : ℕ) → getD l p 0 < 18446744073709551616
+abbrev pub Words : List (List ℕ) → Type 0
+Words l = (p i : ℕ) → wordIn l p i < 18446744073709551616
+
+column-at : (i : ℕ) (steps : List (List ℕ)) (p : ℕ) → wordIn steps p i ≡ getD (columnOf i steps) p 0
+column-at i [] p = refl
+column-at i (w ∷ steps) zero = refl
+column-at i (w ∷ steps) (suc p) = column-at i steps p
 
 abbrev pub Narrows : Conclusions → Type 0
-Narrows d = (j : ℕ) → j < 16 → Narrow (endOf d j)
+Narrows d = (j : ℕ) → j < mostLiterals → Narrow (endOf d j)
 
 -- ---- a line more
 
@@ -51,23 +59,23 @@ ends-end c h ls = rw (end-concludes c, end-back c h) refl
 
 -- ---- items
 
-module _ (firsts seconds thirds : List ℕ) (n : ℕ) (d : Conclusions) where
+module _ (steps : List (List ℕ)) (n : ℕ) (d : Conclusions) where
   abbrev piece : ℕ → List ℕ
-  piece = itemFrame firsts seconds thirds n d
+  piece = itemFrame steps n d
 
   abbrev stepAt : ℕ → Line
-  stepAt p = whole (hex (stepBytes (getD firsts p 0) (getD seconds p 0) (getD thirds p 0)))
+  stepAt p = whole (hex (stepBytes (wordIn steps p 0) (wordIn steps p 1) (wordIn steps p 2)))
 
   step-line : (p : ℕ) (w : List ℕ) → p < n → linesOf (piece p ++ w) ≡ stepAt p ∷ linesOf w
   unfolding stepFrame
   step-line p w h =
-      ap (λ (l : List ℕ). linesOf (l ++ w)) (sym (step-item firsts seconds thirds n d p h))
-      ∙ frame-line (stepBytes (getD firsts p 0) (getD seconds p 0) (getD thirds p 0)) w
+      ap (λ (l : List ℕ). linesOf (l ++ w)) (sym (step-item steps n d p h))
+      ∙ frame-line (stepBytes (wordIn steps p 0) (wordIn steps p 1) (wordIn steps p 2)) w
 
   end-line : (p : ℕ) (w : List ℕ) → n ≤ p → linesOf (piece p ++ w) ≡ whole (hex (endBytes (endOf d (p - n)))) ∷ linesOf w
   unfolding endFrame
   end-line p w h =
-      ap (λ (l : List ℕ). linesOf (l ++ w)) (sym (end-item firsts seconds thirds n d p h)) ∙ frame-line (endBytes (endOf d (p - n))) w
+      ap (λ (l : List ℕ). linesOf (l ++ w)) (sym (end-item steps n d p h)) ∙ frame-line (endBytes (endOf d (p - n))) w
 
   -- one piece before others
   run-first : (k p : ℕ) (w : List ℕ) → run piece p (suc k) ++ w ≡ piece p ++ (run piece (suc p) k ++ w)
@@ -88,7 +96,7 @@ module _ (firsts seconds thirds : List ℕ) (n : ℕ) (d : Conclusions) where
         ∙ ap (λ (l : List ℕ). take (suc k) l ++ wordsIn i (linesOf w)) (sym (drop-cons column p 0 (omega arith)))
       where
         one : (ls : List Line) → wordsIn i (stepAt p ∷ ls) ≡ wordOf (goodLine (stepAt p)) (length (stepAt p .bytes)) (digitsOf (stepAt p)) i ∷ wordsIn i ls
-        one ls = words-step (getD firsts p 0) (getD seconds p 0) (getD thirds p 0) i ls
+        one ls = words-step (wordIn steps p 0) (wordIn steps p 1) (wordIn steps p 2) i ls
 
     words-ends : (k p : ℕ) → n ≤ p → wordsIn i (linesOf (run piece p k)) ≡ []
     unfolding run wordsIn linesOf linesFrom
@@ -109,9 +117,9 @@ module _ (firsts seconds thirds : List ℕ) (n : ℕ) (d : Conclusions) where
   ends-steps zero p w h = refl
   ends-steps (suc k) p w h =
       ap (λ (l : List ℕ). conclusionsIn (linesOf l)) (run-first k p w) ∙ ap conclusionsIn (step-line p (run piece (suc p) k ++ w) (omega arith))
-      ∙ ends-step (getD firsts p 0) (getD seconds p 0) (getD thirds p 0) (linesOf (run piece (suc p) k ++ w)) ∙ ends-steps k (suc p) w (omega arith)
+      ∙ ends-step (wordIn steps p 0) (wordIn steps p 1) (wordIn steps p 2) (linesOf (run piece (suc p) k ++ w)) ∙ ends-steps k (suc p) w (omega arith)
 
-  ends-ends : Narrows d → (k : ℕ) (w : List ℕ) → k ≤ 16
+  ends-ends : Narrows d → (k : ℕ) (w : List ℕ) → k ≤ mostLiterals
       → conclusionsIn (linesOf (run piece n k ++ w)) ≡ conclusionsFrom (d .firsts) (d .differences) k ++ conclusionsIn (linesOf w)
   unfolding run conclusionsFrom
   ends-ends h zero w l = refl
@@ -128,7 +136,7 @@ module _ (firsts seconds thirds : List ℕ) (n : ℕ) (d : Conclusions) where
       before : List Conclusion
       before = conclusionsFrom (d .firsts) (d .differences) k
 
-  pub ends-all : Narrows d → (m : ℕ) → m ≤ 16 → conclusionsIn (linesOf (run piece 0 (n + m))) ≡ conclusionsFrom (d .firsts) (d .differences) m
+  pub ends-all : Narrows d → (m : ℕ) → m ≤ mostLiterals → conclusionsIn (linesOf (run piece 0 (n + m))) ≡ conclusionsFrom (d .firsts) (d .differences) m
   unfolding conclusionsIn linesOf linesFrom
   ends-all h m l =
       let e : 0 + n ≡ n = omega arith in
@@ -138,31 +146,28 @@ module _ (firsts seconds thirds : List ℕ) (n : ℕ) (d : Conclusions) where
 
 -- ---- the frames
 
-module _ (firsts seconds thirds : List ℕ) (steps : ℕ) (d : Conclusions) (literals : ℕ) where
+module _ (steps : List (List ℕ)) (many : ℕ) (d : Conclusions) (literals : ℕ) where
   abbrev frames : List ℕ
-  frames = framesFrom firsts seconds thirds steps d literals 0
+  frames = framesFrom steps many d literals 0
 
   abbrev n : ℕ
-  n = stepCount firsts seconds thirds steps
+  n = stepCount steps many
 
-  whole-run : frames ≡ run (lineIn firsts seconds thirds steps d) 0 (n + min literals 16)
-  whole-run = let e : itemCount firsts seconds thirds steps literals - 0 ≡ n + min literals 16 = omega arith in ap (run (lineIn firsts seconds thirds steps d) 0) e
+  whole-run : frames ≡ run (lineIn steps many d) 0 (n + min literals mostLiterals)
+  whole-run = let e : itemCount steps many literals - 0 ≡ n + min literals mostLiterals = omega arith in ap (run (lineIn steps many d) 0) e
 
-  pub frames-firsts : Words firsts → wordsIn 0 (linesOf frames) ≡ take n firsts
-  frames-firsts h =
-      ap (λ (l : List ℕ). wordsIn 0 (linesOf l)) whole-run
-      ∙ words-all firsts seconds thirds n d 0 firsts (omega arith) (λ p. step-first (getD firsts p 0) (getD seconds p 0) (getD thirds p 0) (h p)) (min literals 16)
+  pub frames-words : Words steps → (i : ℕ) → i < 3 → wordsIn i (linesOf frames) ≡ take n (columnOf i steps)
+  frames-words h i l =
+      ap (λ (z : List ℕ). wordsIn i (linesOf z)) whole-run
+      ∙ words-all steps n d i (columnOf i steps) (omega (arith, length-map steps (λ (w : List ℕ). getD w i 0))) (λ p. word-back i p l) (min literals mostLiterals)
+    where
+      word-back : (i p : ℕ) → i < 3
+          → wordOf (goodLine (stepAt steps n d p)) (length (stepAt steps n d p .bytes)) (digitsOf (stepAt steps n d p)) i ≡ getD (columnOf i steps) p 0
+      word-back zero p b = step-first (wordIn steps p 0) (wordIn steps p 1) (wordIn steps p 2) (h p 0) ∙ column-at 0 steps p
+      word-back (suc zero) p b = step-second (wordIn steps p 0) (wordIn steps p 1) (wordIn steps p 2) (h p 1) ∙ column-at 1 steps p
+      word-back (suc (suc zero)) p b = step-third (wordIn steps p 0) (wordIn steps p 1) (wordIn steps p 2) (h p 2) ∙ column-at 2 steps p
+      word-back (suc (suc (suc i))) p b = absurd (omega arith)
 
-  pub frames-seconds : Words seconds → wordsIn 1 (linesOf frames) ≡ take n seconds
-  frames-seconds h =
-      ap (λ (l : List ℕ). wordsIn 1 (linesOf l)) whole-run
-      ∙ words-all firsts seconds thirds n d 1 seconds (omega arith) (λ p. step-second (getD firsts p 0) (getD seconds p 0) (getD thirds p 0) (h p)) (min literals 16)
-
-  pub frames-thirds : Words thirds → wordsIn 2 (linesOf frames) ≡ take n thirds
-  frames-thirds h =
-      ap (λ (l : List ℕ). wordsIn 2 (linesOf l)) whole-run
-      ∙ words-all firsts seconds thirds n d 2 thirds (omega arith) (λ p. step-third (getD firsts p 0) (getD seconds p 0) (getD thirds p 0) (h p)) (min literals 16)
-
-  pub frames-conclusions : Narrows d → conclusionsIn (linesOf frames) ≡ conclusionsFrom (d .firsts) (d .differences) (min literals 16)
+  pub frames-conclusions : Narrows d → conclusionsIn (linesOf frames) ≡ conclusionsFrom (d .firsts) (d .differences) (min literals mostLiterals)
   frames-conclusions h =
-      ap (λ (l : List ℕ). conclusionsIn (linesOf l)) whole-run ∙ ends-all firsts seconds thirds n d h (min literals 16) (omega arith)
+      ap (λ (l : List ℕ). conclusionsIn (linesOf l)) whole-run ∙ ends-all steps n d h (min literals mostLiterals) (omega arith)

@@ -12,23 +12,24 @@ use mathlib.Core.Path.{_≡_}
 use Prim.Native.Nat.{ℕ, zero, suc, _+_, _-_, _≤_, _<_, min}
 use lib.Dec.{leb}
 use lib.ListN.{length, drop}
+use Rattle.runs.specs.Limits.{mostLiterals}
 use Rattle.verifier.specs.declared.Conclusions.{Conclusions}
 use Rattle.reply_lines.specs.Pieces.{run}
 use Rattle.framing.specs.Lines.{itemFrame, sizeAt}
 use Rattle.framing.specs.declared.Filled.{Filled}
 
-abbrev pub stepCount : List ℕ → List ℕ → List ℕ → ℕ → ℕ
-stepCount firsts seconds thirds steps = min steps (min (length firsts) (min (length seconds) (length thirds)))
+abbrev pub stepCount : List (List ℕ) → ℕ → ℕ
+stepCount steps many = min many (length steps)
 
-abbrev pub itemCount : List ℕ → List ℕ → List ℕ → ℕ → ℕ → ℕ
-itemCount firsts seconds thirds steps literals = stepCount firsts seconds thirds steps + min literals 16
+abbrev pub itemCount : List (List ℕ) → ℕ → ℕ → ℕ
+itemCount steps many literals = stepCount steps many + min literals mostLiterals
 
-abbrev pub lineIn : List ℕ → List ℕ → List ℕ → ℕ → Conclusions → ℕ → List ℕ
-lineIn firsts seconds thirds steps d = itemFrame firsts seconds thirds (stepCount firsts seconds thirds steps) d
+abbrev pub lineIn : List (List ℕ) → ℕ → Conclusions → ℕ → List ℕ
+lineIn steps many d = itemFrame steps (stepCount steps many) d
 
-abbrev pub framesFrom : List ℕ → List ℕ → List ℕ → ℕ → Conclusions → ℕ → ℕ → List ℕ
-framesFrom firsts seconds thirds steps d literals p =
-    run (lineIn firsts seconds thirds steps d) p (itemCount firsts seconds thirds steps literals - p)
+abbrev pub framesFrom : List (List ℕ) → ℕ → Conclusions → ℕ → ℕ → List ℕ
+framesFrom steps many d literals p =
+    run (lineIn steps many d) p (itemCount steps many literals - p)
 
 -- of the k pieces from piece p on
 unfoldable pub fitting : (ℕ → List ℕ) → ℕ → ℕ → ℕ → ℕ
@@ -36,22 +37,20 @@ fitting piece room p zero = zero
 fitting piece room p (suc k) =
     elim (leb (length (piece p)) room) [ true ↦ suc (fitting piece (room - length (piece p)) (suc p) k) | false ↦ zero ]
 
-abbrev pub countFrom : List ℕ → List ℕ → List ℕ → ℕ → Conclusions → ℕ → ℕ → ℕ → ℕ
-countFrom firsts seconds thirds steps d literals p room =
-    fitting (lineIn firsts seconds thirds steps d) room p (itemCount firsts seconds thirds steps literals - p)
+abbrev pub countFrom : List (List ℕ) → ℕ → Conclusions → ℕ → ℕ → ℕ → ℕ
+countFrom steps many d literals p room =
+    fitting (lineIn steps many d) room p (itemCount steps many literals - p)
 
-abbrev pub fillsFrom : List ℕ → List ℕ → List ℕ → ℕ → Conclusions → ℕ → ℕ → ℕ → List ℕ
-fillsFrom firsts seconds thirds steps d literals p room =
-    run (lineIn firsts seconds thirds steps d) p (countFrom firsts seconds thirds steps d literals p room)
+abbrev pub fillsFrom : List (List ℕ) → ℕ → Conclusions → ℕ → ℕ → ℕ → List ℕ
+fillsFrom steps many d literals p room =
+    run (lineIn steps many d) p (countFrom steps many d literals p room)
 
-pub record Fills (firsts seconds thirds : List ℕ) (steps : ℕ) (d : Conclusions) (literals from : ℕ) (lent : List ℕ) (r : Filled) (after : List ℕ) : Type 0 where
-  pub next : r .next ≡ from + countFrom firsts seconds thirds steps d literals from (length lent)
-  pub used : r .used ≡ length (fillsFrom firsts seconds thirds steps d literals from (length lent))
-  pub stored : after ≡ fillsFrom firsts seconds thirds steps d literals from (length lent) ++ drop (r .used) lent
+pub record Fills (steps : List (List ℕ)) (many : ℕ) (d : Conclusions) (literals from : ℕ) (lent : List ℕ) (r : Filled) (after : List ℕ) : Type 0 where
+  pub next : r .next ≡ from + countFrom steps many d literals from (length lent)
+  pub used : r .used ≡ length (fillsFrom steps many d literals from (length lent))
+  pub stored : after ≡ fillsFrom steps many d literals from (length lent) ++ drop (r .used) lent
 
-pub record ItemRoom (firsts seconds thirds : List ℕ) (n p : ℕ) (lent : List ℕ) (at : ℕ) : Type 0 where
-  pub first : n ≤ length firsts
-  pub second : n ≤ length seconds
-  pub third : n ≤ length thirds
-  pub few : p < n + 16
+pub record ItemRoom (steps : List (List ℕ)) (n p : ℕ) (lent : List ℕ) (at : ℕ) : Type 0 where
+  pub inside : n ≤ length steps
+  pub few : p < n + mostLiterals
   pub room : at + sizeAt n p ≤ length lent

@@ -9,10 +9,10 @@ use mathlib.Core.Bool.{true, false}
 use mathlib.Core.List.{List, [], _∷_, _++_}
 use Prim.Native.Nat.{ℕ, zero, suc, _-_, _/_, _%_}
 use lib.Dec.{ltb}
-use lib.ListN.{getD}
 use Rattle.meaning.specs.Writing.{frame}
 use Rattle.meaning.specs.Grounds.{Conclusion}
 use Rattle.meaning.specs.GroundColumns.{conclusionFrom}
+use Rattle.grounds_steps.specs.Steps.{wordIn}
 use Rattle.verifier.specs.declared.Conclusions.{Conclusions}
 
 unfoldable pub octets : ℕ → ℕ → List ℕ
@@ -39,9 +39,9 @@ endFrame c = frame (endBytes c)
 abbrev pub endOf : Conclusions → ℕ → Conclusion
 endOf d j = conclusionFrom (d .firsts) (d .differences) j
 
-unfoldable pub itemFrame : List ℕ → List ℕ → List ℕ → ℕ → Conclusions → ℕ → List ℕ
-itemFrame firsts seconds thirds n d p =
-    elim (ltb p n) [ true ↦ stepFrame (getD firsts p 0) (getD seconds p 0) (getD thirds p 0) | false ↦ endFrame (endOf d (p - n)) ]
+unfoldable pub itemFrame : List (List ℕ) → ℕ → Conclusions → ℕ → List ℕ
+itemFrame steps n d p =
+    elim (ltb p n) [ true ↦ stepFrame (wordIn steps p 0) (wordIn steps p 1) (wordIn steps p 2) | false ↦ endFrame (endOf d (p - n)) ]
 
 unfoldable pub sizeAt : ℕ → ℕ → ℕ
 sizeAt n p = elim (ltb p n) [ true ↦ 51 | false ↦ 27 ]

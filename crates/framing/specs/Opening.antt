@@ -23,10 +23,10 @@ pub record Handed (r : Grounds) (o : Opened) : Type 0 where
   pub literals : o .literals ≡ r .literals
   pub conclusions : o .conclusions ≡ r .conclusions
 
--- by the columns before and after
-pub data Opens (input firsts seconds thirds : List ℕ) (o : Opened) : List ℕ → List ℕ → List ℕ → Type 0 where
+-- by the run before and after
+pub data Opens (input : List ℕ) (steps : List (List ℕ)) (o : Opened) : List (List ℕ) → Type 0 where
   long : inputLimit < length input → Prints (printed (refused (refusal 11 0))) (o .line .bytes) (o .line .len) → Empty o
-      → Opens input firsts seconds thirds o firsts seconds thirds
-  replies : length input ≤ inputLimit → (r : Grounds) (firsts′ seconds′ thirds′ : List ℕ) (w : Writes input firsts seconds thirds r firsts′ seconds′ thirds′)
+      → Opens input steps o steps
+  replies : length input ≤ inputLimit → (r : Grounds) (steps′ : List (List ℕ)) (w : Writes input steps r steps′)
       → Prints (printed (w .reply)) (o .line .bytes) (o .line .len) → Handed r o
-      → Opens input firsts seconds thirds o firsts′ seconds′ thirds′
+      → Opens input steps o steps′

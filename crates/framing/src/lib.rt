@@ -2,8 +2,13 @@
 mod lines;
 pub mod opening;
 
+use grounds_steps::WORDS;
+use grounds_steps::lower_in;
+use grounds_steps::sides_in;
+use grounds_steps::upper_in;
 use lines::put_end;
 use lines::put_step;
+use runs::limits::LITERALS;
 use verifier::Conclusions;
 ghost use mathlib.Core.Path.{_≡_};
 ghost use Prim.Native.Nat.{min};
@@ -23,27 +28,18 @@ fn least(a: usize, b: usize) -> usize
     if a < b { a } else { b }
 }
 
-// How many steps there are to write: no more than the shortest column has places.
-fn held<'a>(firsts: &'a [u64], seconds: &'a [u64], thirds: &'a [u64], steps: usize) -> usize
-    ensures { λ r. ⌜ r ≡ stepCount (now (firsts .entry)) (now (seconds .entry)) (now (thirds .entry)) steps ⌝ }
+// How many steps there are to write: no more than the run has places.
+fn held(steps: &[[u64; WORDS]], many: usize) -> usize
+    ensures { λ r. ⌜ r ≡ stepCount (now (steps .entry)) many ⌝ }
 {
-    least(
-        steps,
-        least(firsts.len(), least(seconds.len(), thirds.len())),
-    )
+    least(many, steps.len())
 }
 
 // How many lines there are: the steps, and a conclusion for each literal, of which there are 16 at most.
-pub fn items<'a>(
-    firsts: &'a [u64],
-    seconds: &'a [u64],
-    thirds: &'a [u64],
-    steps: usize,
-    literals: usize,
-) -> usize
-    ensures counts { λ r. ⌜ r ≡ itemCount (now (firsts .entry)) (now (seconds .entry)) (now (thirds .entry)) steps literals ⌝ }
+pub fn items(steps: &[[u64; WORDS]], many: usize, literals: usize) -> usize
+    ensures counts { λ r. ⌜ r ≡ itemCount (now (steps .entry)) many literals ⌝ }
 {
-    held(firsts, seconds, thirds, steps) + least(literals, 16)
+    held(steps, many) + least(literals, LITERALS)
 }
 
 // How long the line of item p is, where the first n items are steps.
@@ -54,41 +50,36 @@ fn size(n: usize, p: usize) -> usize
 }
 
 // The line of item p, where the first n items are steps.
-fn put_item<'a>(
-    firsts: &'a [u64],
-    seconds: &'a [u64],
-    thirds: &'a [u64],
-    n: usize,
-    d: Conclusions,
-    p: usize,
-    lent: &mut [u8],
-    at: usize,
-)
-    requires { ⌜ ItemRoom (now firsts) (now seconds) (now thirds) n p (now lent) at ⌝ }
-    ensures { λ _. ⌜ now (lent .exit) ≡ sets (now (lent .entry)) at (itemFrame (now (firsts .entry)) (now (seconds .entry)) (now (thirds .entry)) n d p) ⌝ }
+fn put_item(steps: &[[u64; WORDS]], n: usize, d: Conclusions, p: usize, lent: &mut [u8], at: usize)
+    requires { ⌜ ItemRoom (now steps) n p (now lent) at ⌝ }
+    ensures { λ _. ⌜ now (lent .exit) ≡ sets (now (lent .entry)) at (itemFrame (now (steps .entry)) n d p) ⌝ }
 {
     if p < n {
-        put_step(firsts[p], seconds[p], thirds[p], lent, at);
+        put_step(
+            sides_in(steps, p),
+            upper_in(steps, p),
+            lower_in(steps, p),
+            lent,
+            at,
+        );
         return;
     }
     put_end(d, p - n, lent, at);
 }
 
 // Writes whole lines from an item on, as many as there is room for.
-pub fn fill<'a>(
-    firsts: &'a [u64],
-    seconds: &'a [u64],
-    thirds: &'a [u64],
-    steps: usize,
+pub fn fill(
+    steps: &[[u64; WORDS]],
+    many: usize,
     d: Conclusions,
     literals: usize,
     from: usize,
     space: &mut [u8],
 ) -> Filled
-    ensures fills { λ r. ⌜ Fills (now (firsts .entry)) (now (seconds .entry)) (now (thirds .entry)) steps d literals from (now (space .entry)) r (now (space .exit)) ⌝ }
+    ensures fills { λ r. ⌜ Fills (now (steps .entry)) many d literals from (now (space .entry)) r (now (space .exit)) ⌝ }
 {
-    let n = held(firsts, seconds, thirds, steps);
-    let end = items(firsts, seconds, thirds, steps, literals);
+    let n = held(steps, many);
+    let end = items(steps, many, literals);
     let mut used = 0;
     let mut at = from;
     while at < end {
@@ -96,7 +87,7 @@ pub fn fill<'a>(
         if space.len() - used < len {
             return Filled { used, next: at };
         }
-        put_item(firsts, seconds, thirds, n, d, at, space, used);
+        put_item(steps, n, d, at, space, used);
         used += len;
         at += 1;
     }

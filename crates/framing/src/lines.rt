@@ -1,4 +1,6 @@
 // The lines of steps and of conclusions: two digits a byte, and a feed.
+use casts::u64_of_u16;
+use casts::u64_of_u32;
 use reply_lines::hex::put_byte;
 use verifier::Conclusions;
 ghost use mathlib.Core.Path.{_≡_};
@@ -6,6 +8,7 @@ ghost use mathlib.Core.List.{_++_};
 ghost use Prim.Native.Nat.{_+_, _*_, _<_, _≤_};
 ghost use lib.ListN.{length};
 ghost use lib.Seq.{sets};
+ghost use Rattle.runs.specs.Limits.{mostLiterals};
 ghost use Rattle.meaning.specs.Writing.{hex, frame};
 ghost use Rattle.framing.specs.Lines.{octets, stepFrame, citedBytes, endFrame, endOf};
 
@@ -68,26 +71,14 @@ fn put_fields(literal: u64, first: u64, difference: u64, lent: &mut [u8], at: us
     put_cited(first, difference, lent, at + 4);
 }
 
-fn wide32(x: u32) -> u64
-    ensures { λ r. ⌜ r ≡ x ⌝ }
-{
-    x as u64
-}
-
-fn wide16(x: u16) -> u64
-    ensures { λ r. ⌜ r ≡ x ⌝ }
-{
-    x as u64
-}
-
 // The conclusion of literal j, from 0; on the line literals are counted from 1.
 pub(crate) fn put_end(d: Conclusions, j: usize, lent: &mut [u8], at: usize)
-    requires { ⌜ j < 16 ⌝ }
+    requires { ⌜ j < mostLiterals ⌝ }
     requires { ⌜ at + 27 ≤ length (now lent) ⌝ }
     ensures { λ _. ⌜ now (lent .exit) ≡ sets (now (lent .entry)) at (endFrame (endOf d j)) ⌝ }
 {
-    let first = wide32(d.firsts[j]);
-    let difference = wide16(d.differences[j]);
+    let first = u64_of_u32(d.firsts[j]);
+    let difference = u64_of_u16(d.differences[j]);
     let literal = (j + 1) as u64;
     put_fields(literal, first, difference, lent, at);
 }

@@ -1,4 +1,5 @@
 // The first line of a program's output, and what its grounds are printed from.
+use grounds_steps::WORDS;
 use replies::INPUT_LIMIT;
 use reply_lines::Line;
 use reply_lines::over_line;
@@ -6,7 +7,7 @@ use reply_lines::reply_line;
 use verifier::Conclusions;
 ghost use Rattle.framing.specs.Opening.{Opens};
 
-// The line; and for a breach how many steps stand in the columns, how many literals there are, and their conclusions.
+// The line; and for a breach how many steps stand in the run, how many literals there are, and their conclusions.
 pub struct Opened {
     pub line: Line,
     pub steps: usize,
@@ -15,8 +16,8 @@ pub struct Opened {
 }
 
 // Refusal 11 first, with nothing written; else the writer's reply and what it wrote.
-pub fn open(input: &[u8], firsts: &mut [u64], seconds: &mut [u64], thirds: &mut [u64]) -> Opened
-    ensures opens { λ o. ⌜ Opens (now (input .entry)) (now (firsts .entry)) (now (seconds .entry)) (now (thirds .entry)) o (now (firsts .exit)) (now (seconds .exit)) (now (thirds .exit)) ⌝ }
+pub fn open(input: &[u8], steps: &mut [[u64; WORDS]]) -> Opened
+    ensures opens { λ o. ⌜ Opens (now (input .entry)) (now (steps .entry)) o (now (steps .exit)) ⌝ }
 {
     if INPUT_LIMIT < input.len() {
         let line = over_line();
@@ -28,7 +29,7 @@ pub fn open(input: &[u8], firsts: &mut [u64], seconds: &mut [u64], thirds: &mut 
             conclusions,
         };
     }
-    let r = writer::write(input, firsts, seconds, thirds);
+    let r = writer::write(input, steps);
     let outcome = r.outcome;
     let places = r.places;
     let line = reply_line(outcome, places);

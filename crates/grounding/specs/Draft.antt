@@ -1,5 +1,6 @@
 -- Steps on the way, in one column of numbers, and how one step is made of others.
---     countIn, stepIn   place 0 is how many there are; step i has the seven places after 7i: kind, left entry, right entry, four numbers
+--     countIn           place 0 is how many there are
+--     cellIn, stepIn    place j, 1 to 7, of step i: kind, left entry, right entry, four numbers; and the step
 --     ownerAt           the first steps are shared, and the others one owner's
 --     draft             the steps that a column holds
 --     Written           a column, and the number of one of its steps
@@ -14,6 +15,8 @@ use Prim.Native.Nat.{ℕ, zero, suc, _+_, _-_, _*_}
 use lib.Dec.{eqb, ltb}
 use lib.ListN.{getD, set}
 use Rattle.meaning.specs.Grounds.{Ref, Step}
+use Rattle.grounds_steps.specs.Steps.{mostEach}
+use Rattle.grounding.specs.Limits.{draftSize}
 
 -- of so many context rows
 unfoldable pub refOf : ℕ → ℕ → Ref
@@ -25,14 +28,17 @@ stepOf rows owner kind x y ns = record { owner = owner; kind = kind; left = refO
 abbrev pub countIn : List ℕ → ℕ
 countIn cells = getD cells 0 0
 
+abbrev pub cellIn : List ℕ → ℕ → ℕ → ℕ
+cellIn cells i j = getD cells (i * draftSize + j) 0
+
 -- of step i, where the first `from` steps are shared
 unfoldable pub ownerAt : ℕ → ℕ → ℕ → ℕ
 ownerAt from owner i = elim (ltb i from) [ true ↦ 0 | false ↦ owner ]
 
 unfoldable pub stepIn : ℕ → ℕ → ℕ → List ℕ → ℕ → Step
 stepIn rows from owner cells i =
-    stepOf rows (ownerAt from owner i) (getD cells (i * 7 + 1) 0) (getD cells (i * 7 + 2) 0) (getD cells (i * 7 + 3) 0)
-    (getD cells (i * 7 + 4) 0 ∷ getD cells (i * 7 + 5) 0 ∷ getD cells (i * 7 + 6) 0 ∷ getD cells (i * 7 + 7) 0 ∷ [])
+    stepOf rows (ownerAt from owner i) (cellIn cells i 1) (cellIn cells i 2) (cellIn cells i 3)
+    (cellIn cells i 4 ∷ cellIn cells i 5 ∷ cellIn cells i 6 ∷ cellIn cells i 7 ∷ [])
 
 -- the first n
 unfoldable pub draftTo : ℕ → ℕ → ℕ → List ℕ → ℕ → List Step
@@ -57,8 +63,8 @@ laid l p kind x y a b c d = set (set (set (set (set (set (set l (p + 1) kind) (p
 -- number 0 where there is no room
 unfoldable pub pushed : List ℕ → ℕ → ℕ → ℕ → ℕ → ℕ → ℕ → ℕ → Written
 pushed cells kind x y a b c d =
-    elim (ltb (countIn cells) 16384) [
-      | true ↦ record { cells = set (laid cells (countIn cells * 7) kind x y a b c d) 0 (countIn cells + 1); number = countIn cells + 1 }
+    elim (ltb (countIn cells) mostEach) [
+      | true ↦ record { cells = set (laid cells (countIn cells * draftSize) kind x y a b c d) 0 (countIn cells + 1); number = countIn cells + 1 }
       | false ↦ record { cells = cells; number = 0 }
     ]
 

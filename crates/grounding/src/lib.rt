@@ -1,0 +1,11 @@
+// How long the runs are in which steps are made and numbered anew. Their twins for contracts stand in specs/Limits.
+use grounds_steps::EACH;
+
+// The numbers of a step on the way.
+pub const DRAFT: usize = 7;
+
+// A column of steps on the way: how many there are, and their numbers.
+pub const DRAFT_RUN: usize = EACH * DRAFT + 1;
+
+// A place for the number of each step, and one for 0, which is no step's.
+pub const NUMBER_RUN: usize = EACH + 1;

@@ -7,7 +7,7 @@
 --     listed-left, listed-done        a piece that was not taken; every line was handed over
 --     turn-less                       a piece has room for a line, so it ends at a later one
 --     head-left, head-whole           a line that was not taken; the line, and then the lines of the grounds
---     room-there                      the program's columns have room
+--     room-there                      the program's run has room
 -- Assumes nothing.
 use mathlib.Core.Bool.{Bool, true, not}
 use mathlib.Core.List.{List, [], _++_, append-nil, append-assoc}
@@ -22,7 +22,7 @@ use Rattle.meaning.specs.Replies.{FindPrints}
 use Rattle.reply_lines.specs.Pieces.{run}
 use Rattle.printing.specs.Claims.{PrintsFound}
 use Rattle.verifier.specs.declared.Conclusions.{Conclusions}
-use Rattle.writer.specs.Claims.{most, space}
+use Rattle.grounds_steps.specs.Steps.{mostSteps}
 use Rattle.framing.specs.Filling.{itemCount, lineIn, framesFrom, countFrom, fillsFrom, Fills}
 use Rattle.framing.specs.Opening.{Opens}
 use Rattle.framing.specs.declared.Filled.{Filled}
@@ -38,14 +38,12 @@ use Rattle.grounds.specs.Giving.{Ready, GroundsPrints, Comes, Gives, Lis
 
 -- ---- the line
 
-pub opened-ready : (input firsts seconds thirds firsts′ seconds′ thirds′ : List ℕ) (o : Opened) → most ≤ space firsts seconds thirds
-    → Opens input firsts seconds thirds o firsts′ seconds′ thirds′ → Ready input o firsts′ seconds′ thirds′
-opened-ready input firsts seconds thirds firsts′ seconds′ thirds′ o room opens =
-    record { firsts = firsts; seconds = seconds; thirds = thirds; room = room; opens = opens }
+pub opened-ready : (input : List ℕ) (steps steps′ : List (List ℕ)) (o : Opened) → mostSteps ≤ length steps → Opens input steps o steps′ → Ready input o steps′
+opened-ready input steps steps′ o room opens = record { steps = steps; room = room; opens = opens }
 
-module _ (input : List ℕ) (o : Opened) (firsts seconds thirds : List ℕ) (ready : Ready input o firsts seconds thirds) where
+module _ (input : List ℕ) (o : Opened) (steps : List (List ℕ)) (ready : Ready input o steps) where
   found : PrintsFound input (o .line)
-  found = opened-found input (ready .firsts) (ready .seconds) (ready .thirds) o firsts seconds thirds (ready .room) (ready .opens)
+  found = opened-found input (ready .steps) o steps (ready .room) (ready .opens)
 
   abbrev lineOf : List ℕ
   lineOf = take (o .line .len) (o .line .bytes)
@@ -60,40 +58,40 @@ module _ (input : List ℕ) (o : Opened) (firsts seconds thirds : List ℕ) (rea
       (sym (front-taken (found .line) (replicate (32 - length (found .line)) 0) (o .line .bytes) (o .line .len) (found .front .size) (found .front .front)))
       (found .prints)
 
-  pub head-whole : (a b r : Sent) → Carries lineOf a → Lists firsts seconds thirds (o .steps) (o .conclusions) (o .literals) b
+  pub head-whole : (a b r : Sent) → Carries lineOf a → Lists steps (o .steps) (o .conclusions) (o .literals) b
       → r ≡ bothOf (a .fate) a b → Delivers (GroundsPrints input) r
   head-whole a b r c d e =
-      delivers-one (GroundsPrints input) (lineOf ++ framesFrom firsts seconds thirds (o .steps) (o .conclusions) (o .literals) 0) r
-      (record { opened = o; firsts = firsts; seconds = seconds; thirds = thirds; ready = ready; line = lineOf; finds = line-finds; whole = refl })
-      (carries-both lineOf (framesFrom firsts seconds thirds (o .steps) (o .conclusions) (o .literals) 0) a b r e c (d .carries))
+      delivers-one (GroundsPrints input) (lineOf ++ framesFrom steps (o .steps) (o .conclusions) (o .literals) 0) r
+      (record { opened = o; steps = steps; ready = ready; line = lineOf; finds = line-finds; whole = refl })
+      (carries-both lineOf (framesFrom steps (o .steps) (o .conclusions) (o .literals) 0) a b r e c (d .carries))
 
 pub head-left : (input : List ℕ) (a : Sent) (b : Bool) → b ≡ wholeBy (a .fate) → not b ≡ true → Delivers (GroundsPrints input) a
 head-left input a b e h = delivers-none (GroundsPrints input) a (sym e ∙ not-true b h)
 
 -- ---- the pieces
 
-module _ (firsts seconds thirds : List ℕ) (steps : ℕ) (d : Conclusions) (literals : ℕ) where
+module _ (steps : List (List ℕ)) (many : ℕ) (d : Conclusions) (literals : ℕ) where
   abbrev frames : ℕ → List ℕ
-  frames p = framesFrom firsts seconds thirds steps d literals p
+  frames p = framesFrom steps many d literals p
 
-  module _ (from : ℕ) (r : Filled) (after : List ℕ) (f : Fills firsts seconds thirds steps d literals from (replicate 8192 0) r after) where
+  module _ (from : ℕ) (r : Filled) (after : List ℕ) (f : Fills steps many d literals from (replicate 8192 0) r after) where
     abbrev bytes : List ℕ
-    bytes = fillsFrom firsts seconds thirds steps d literals from (length (replicate {A = ℕ} 8192 0))
+    bytes = fillsFrom steps many d literals from (length (replicate {A = ℕ} 8192 0))
 
     pub piece-fits : r .used ≤ length after
     piece-fits = front-fits bytes (drop (r .used) (replicate 8192 0)) after (r .used) (f .used) (f .stored)
 
-    pub piece-comes : Comes firsts seconds thirds steps d literals from (r .next) (take (r .used) after)
+    pub piece-comes : Comes steps many d literals from (r .next) (take (r .used) after)
     piece-comes =
         record {
           whole =
-              fills-rest firsts seconds thirds steps d literals from (length (replicate {A = ℕ} 8192 0))
-              ∙ ap (λ (l : List ℕ). l ++ frames (from + countFrom firsts seconds thirds steps d literals from (length (replicate {A = ℕ} 8192 0))))
+              fills-rest steps many d literals from (length (replicate {A = ℕ} 8192 0))
+              ∙ ap (λ (l : List ℕ). l ++ frames (from + countFrom steps many d literals from (length (replicate {A = ℕ} 8192 0))))
               (sym (front-taken bytes (drop (r .used) (replicate 8192 0)) after (r .used) (f .used) (f .stored)))
               ∙ ap (λ (p : ℕ). take (r .used) after ++ frames p) (sym (f .next));
           later =
               λ h.
-              omega (arith, f .next, fills-on firsts seconds thirds steps d literals from (length (replicate {A = ℕ} 8192 0)) (omega (arith, length-replicate {A = ℕ} 8192 0)) h);
+              omega (arith, f .next, fills-on steps many d literals from (length (replicate {A = ℕ} 8192 0)) (omega (arith, length-replicate {A = ℕ} 8192 0)) h);
         }
 
   pub record Listed (at : ℕ) (sent : Sent) : Type 0 where
@@ -104,7 +102,7 @@ module _ (firsts seconds thirds : List ℕ) (steps : ℕ) (d : Conclusions) (lit
   pub listed-start : (sent : Sent) → sent ≡ noneSent → Listed 0 sent
   listed-start sent e = record { bytes = []; carries = subst (Carries []) (sym e) carries-none; whole = refl }
 
-  module _ (at next : ℕ) (sent more both : Sent) (l : Listed at sent) (g : Gives firsts seconds thirds steps d literals at next more)
+  module _ (at next : ℕ) (sent more both : Sent) (l : Listed at sent) (g : Gives steps many d literals at next more)
       (e : both ≡ bothOf (sent .fate) sent more) where
     pub listed-next : Listed next both
     listed-next =
@@ -114,29 +112,24 @@ module _ (firsts seconds thirds : List ℕ) (steps : ℕ) (d : Conclusions) (lit
           whole = l .whole ∙ ap (λ (z : List ℕ). l .bytes ++ z) (g .comes .whole) ∙ sym (append-assoc (l .bytes) (g .bytes) (frames next));
         }
 
-  pub listed-left : (sent : Sent) (b : Bool) → b ≡ wholeBy (sent .fate) → not b ≡ true → Lists firsts seconds thirds steps d literals sent
+  pub listed-left : (sent : Sent) (b : Bool) → b ≡ wholeBy (sent .fate) → not b ≡ true → Lists steps many d literals sent
   listed-left sent b e h = record { carries = carries-left (frames 0) sent (sym e ∙ not-true b h) }
 
-  pub listed-done : (at end : ℕ) (sent : Sent) → Listed at sent → end ≡ itemCount firsts seconds thirds steps literals → end ≤ at → Lists firsts seconds thirds steps d literals sent
+  pub listed-done : (at end : ℕ) (sent : Sent) → Listed at sent → end ≡ itemCount steps many literals → end ≤ at → Lists steps many d literals sent
   unfolding run
   listed-done at end sent l e h =
-      let z : itemCount firsts seconds thirds steps literals - at ≡ 0 = omega arith in
-      let none : frames at ≡ [] = ap (run (lineIn firsts seconds thirds steps d) at) z in
+      let z : itemCount steps many literals - at ≡ 0 = omega arith in
+      let none : frames at ≡ [] = ap (run (lineIn steps many d) at) z in
       record { carries = subst (λ (x : List ℕ). Carries x sent) (sym (l .whole ∙ ap (λ (x : List ℕ). l .bytes ++ x) none ∙ append-nil (l .bytes))) (l .carries) }
 
-  pub turn-less : (end at next : ℕ) (sent : Sent) → end ≡ itemCount firsts seconds thirds steps literals → at < end
-      → Gives firsts seconds thirds steps d literals at next sent → end - next < end - at
+  pub turn-less : (end at next : ℕ) (sent : Sent) → end ≡ itemCount steps many literals → at < end
+      → Gives steps many d literals at next sent → end - next < end - at
   turn-less end at next sent e h g = omega (arith, g .comes .later (omega arith))
 
--- ---- the columns
+-- ---- the run
 
-least-three : (a b c : List ℕ) → most ≤ length a → most ≤ length b → most ≤ length c → most ≤ space a b c
-least-three a b c p q r = omega arith
-
-pub room-there : most ≤ space (replicate 278528 0) (replicate 278528 0) (replicate 278528 0)
-room-there =
-    let long : most ≤ length (replicate {A = ℕ} 278528 0) = omega (arith, length-replicate {A = ℕ} 278528 0) in
-    least-three (replicate 278528 0) (replicate 278528 0) (replicate 278528 0) long long long
+pub room-there : (words : List ℕ) → mostSteps ≤ length (replicate mostSteps words)
+room-there words = omega (arith, length-replicate {A = List ℕ} mostSteps words)
 
 pub ruleset mine = (needs, first-count, takes-within, takes-read, opened-ready, line-fits, piece-fits, piece-comes, listed-start, listed-next, turn-less, room-there)
 

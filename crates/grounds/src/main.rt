@@ -12,20 +12,20 @@ use channels::telling::report;
 use channels::telling::tell;
 use framing::opening::Opened;
 use framing::opening::open;
+use grounds_steps::STEPS;
+use grounds_steps::WORDS;
 use verifier::Conclusions;
 ghost use Prim.Native.Nat.{_≤_};
 ghost use Rattle.meaning.specs.Text.{narrow};
 ghost use Rattle.meaning.specs.Replies.{FindPrints};
-ghost use Rattle.writer.specs.Claims.{most, space};
+ghost use lib.ListN.{length};
+ghost use Rattle.grounds_steps.specs.Steps.{mostSteps};
 ghost use Rattle.channels.specs.Taking.{Read};
 ghost use Rattle.channels.specs.Sending.{Carries, Delivers};
 ghost use Rattle.grounds.specs.Giving.{Ready, GroundsPrints, Comes, Gives, Lists};
 
 // How many bytes a piece of the lines has room for.
 const PIECE: usize = 8192;
-
-// How many steps there has to be room for.
-const STEPS: usize = 278528;
 
 // What became of a piece, and which item comes next.
 struct Given {
@@ -42,77 +42,41 @@ fn hand_line<'a>(input: &'a [u8], line: &'a [u8]) -> Sent
 }
 
 // Hands over the lines of the items from one to before the next.
-fn hand<'a>(
-    firsts: &'a [u64],
-    seconds: &'a [u64],
-    thirds: &'a [u64],
-    steps: usize,
+fn hand(
+    steps: &[[u64; WORDS]],
+    many: usize,
     d: Conclusions,
     literals: usize,
     from: usize,
     next: usize,
-    bytes: &'a [u8],
+    bytes: &[u8],
 ) -> Sent
-    requires { ⌜ Comes (now firsts) (now seconds) (now thirds) steps d literals from next (now bytes) ⌝ }
-    ensures { λ s. ⌜ Gives (now (firsts .entry)) (now (seconds .entry)) (now (thirds .entry)) steps d literals from next s ⌝ }
+    requires { ⌜ Comes (now steps) many d literals from next (now bytes) ⌝ }
+    ensures { λ s. ⌜ Gives (now (steps .entry)) many d literals from next s ⌝ }
 {
     put(bytes)
 }
 
-fn piece<'a>(
-    firsts: &'a [u64],
-    seconds: &'a [u64],
-    thirds: &'a [u64],
-    steps: usize,
-    d: Conclusions,
-    literals: usize,
-    from: usize,
-) -> Given
-    ensures { λ r. ⌜ Gives (now (firsts .entry)) (now (seconds .entry)) (now (thirds .entry)) steps d literals from (r .next) (r .sent) ⌝ }
+fn piece(steps: &[[u64; WORDS]], many: usize, d: Conclusions, literals: usize, from: usize) -> Given
+    ensures { λ r. ⌜ Gives (now (steps .entry)) many d literals from (r .next) (r .sent) ⌝ }
 {
     let mut space = [0u8; PIECE];
-    let filled = framing::fill(
-        firsts,
-        seconds,
-        thirds,
-        steps,
-        d,
-        literals,
-        from,
-        &mut space,
-    );
+    let filled = framing::fill(steps, many, d, literals, from, &mut space);
     let used = filled.used;
     let next = filled.next;
-    let sent = hand(
-        firsts,
-        seconds,
-        thirds,
-        steps,
-        d,
-        literals,
-        from,
-        next,
-        &space[..used],
-    );
+    let sent = hand(steps, many, d, literals, from, next, &space[..used]);
     Given { sent, next }
 }
 
 // Hands over all lines, piece by piece, as long as each is taken.
-fn list<'a>(
-    firsts: &'a [u64],
-    seconds: &'a [u64],
-    thirds: &'a [u64],
-    steps: usize,
-    d: Conclusions,
-    literals: usize,
-) -> Sent
-    ensures { λ s. ⌜ Lists (now (firsts .entry)) (now (seconds .entry)) (now (thirds .entry)) steps d literals s ⌝ }
+fn list(steps: &[[u64; WORDS]], many: usize, d: Conclusions, literals: usize) -> Sent
+    ensures { λ s. ⌜ Lists (now (steps .entry)) many d literals s ⌝ }
 {
-    let end = framing::items(firsts, seconds, thirds, steps, literals);
+    let end = framing::items(steps, many, literals);
     let mut sent = nothing();
     let mut at = 0;
     while at < end {
-        let given = piece(firsts, seconds, thirds, steps, d, literals, at);
+        let given = piece(steps, many, d, literals, at);
         let more = given.sent;
         sent = both(sent, more);
         if !is_whole(sent) {
@@ -124,14 +88,8 @@ fn list<'a>(
 }
 
 // Hands over the line and the lines of the grounds.
-fn deliver<'a>(
-    input: &'a [u8],
-    opened: Opened,
-    firsts: &'a [u64],
-    seconds: &'a [u64],
-    thirds: &'a [u64],
-) -> Sent
-    requires { ⌜ Ready (now input) opened (now firsts) (now seconds) (now thirds) ⌝ }
+fn deliver(input: &[u8], opened: Opened, steps: &[[u64; WORDS]]) -> Sent
+    requires { ⌜ Ready (now input) opened (now steps) ⌝ }
     ensures { λ s. ⌜ Delivers (GroundsPrints (now (input .entry))) s ⌝ }
 {
     let line = opened.line;
@@ -142,33 +100,25 @@ fn deliver<'a>(
         return head;
     }
     let d = opened.conclusions;
-    let rest = list(firsts, seconds, thirds, opened.steps, d, opened.literals);
+    let rest = list(steps, opened.steps, d, opened.literals);
     both(head, rest)
 }
 
-fn answer(
-    got: Got,
-    input: &[u8],
-    firsts: &mut [u64],
-    seconds: &mut [u64],
-    thirds: &mut [u64],
-) -> Sent
+fn answer(got: Got, input: &[u8], steps: &mut [[u64; WORDS]]) -> Sent
     requires { ⌜ Read got (now input) ⌝ }
-    requires { ⌜ most ≤ space (now firsts) (now seconds) (now thirds) ⌝ }
+    requires { ⌜ mostSteps ≤ length (now steps) ⌝ }
     ensures { λ s. ⌜ Delivers (GroundsPrints (now (input .entry))) s ⌝ }
 {
-    let opened = open(input, firsts, seconds, thirds);
-    deliver(input, opened, firsts, seconds, thirds)
+    let opened = open(input, steps);
+    deliver(input, opened, steps)
 }
 
 fn main() {
     let mut input = input_space();
     let got = take_input(&mut input);
-    let mut firsts = [0u64; STEPS];
-    let mut seconds = [0u64; STEPS];
-    let mut thirds = [0u64; STEPS];
+    let mut steps = [[0u64; WORDS]; STEPS];
     match got {
-        Got::Bytes(n) => report(answer(got, &input[..n], &mut firsts, &mut seconds, &mut thirds)),
+        Got::Bytes(n) => report(answer(got, &input[..n], &mut steps)),
         Got::Failed => tell(FAILED),
     }
 }

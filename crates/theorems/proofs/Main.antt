@@ -29,9 +29,10 @@ use Rattle.judging.specs.Claims.{JudgesTo}
 use Rattle.judging.specs.declared.Outcome.{Outcome as Judgement}
 use Rattle.judging.specs.declared.Outcome.the-variants.{Judged}
 use Rattle.judging.proofs.Answers as Judging
-use Rattle.writer.specs.Claims.{most, space, Writes as WritesGrounds}
+use Rattle.grounds_steps.specs.Steps.{mostSteps}
+use Rattle.writer.specs.Claims.{Writes as WritesGrounds}
 use Rattle.writer.specs.declared.Grounds.{Grounds}
-use Rattle.writer.proofs.Answers.{writes-accepted}
+use Rattle.writer.proofs.Answers.{columnOf, writes-accepted}
 use Rattle.framing.specs.Opening as Framing
 use Rattle.framing.specs.Filling.{framesFrom}
 use Rattle.framing.specs.declared.opening.Opened.{Opened as GroundsOpened}
@@ -68,8 +69,9 @@ pub accepted-breach : (text places firsts seconds thirds : List ℕ) (d : Conclu
 accepted-breach text places firsts seconds thirds d j = Judging.accepted-breach _ _ _ narrow text (j .judges)
 
 -- Grounds that `writer::write` gives for a breach are accepted.
-pub ours-accepted : (text firsts seconds thirds : List ℕ) (r : Grounds) (x y z : List ℕ) → WritesGrounds text firsts seconds thirds r x y z → (n : ℕ) → r .outcome ≡ Breach n
-    → (o : Judgement) → JudgesTo text (r .places) (take (r .steps) x) (take (r .steps) y) (take (r .steps) z) (r .conclusions) o → o ≡ Judged Accepted
+pub ours-accepted : (text : List ℕ) (steps : List (List ℕ)) (r : Grounds) (x : List (List ℕ)) → WritesGrounds text steps r x → (n : ℕ) → r .outcome ≡ Breach n
+    → (o : Judgement) → JudgesTo text (r .places) (columnOf 0 (take (r .steps) x)) (columnOf 1 (take (r .steps) x)) (columnOf 2 (take (r .steps) x)) (r .conclusions) o
+    → o ≡ Judged Accepted
 ours-accepted = writes-accepted
 
 -- What `find` prints, refusal 11 first.
@@ -82,10 +84,9 @@ pub normalise-prints : (input space after : List ℕ) (r : Parts) → 7898 ≤ l
 normalise-prints = output-prints
 
 -- What `grounds` prints first is what `find` prints, and nothing follows where there is no breach.
-pub grounds-prints : (input firsts seconds thirds : List ℕ) (o : GroundsOpened) (x y z : List ℕ) → most ≤ space firsts seconds thirds → Framing.Opens input firsts seconds thirds o x y z
-    → FindPrints narrow input (shownIn (o .line)) × (((a : List ℕ) → Replies narrow input (breach a) → ⊥) → framesFrom x y z (o .steps) (o .conclusions) (o .literals) 0 ≡ [])
-grounds-prints input firsts seconds thirds o x y z room w =
-    (found-shown input (o .line) (opened-found input firsts seconds thirds o x y z room w), opened-alone input firsts seconds thirds o x y z w)
+pub grounds-prints : (input : List ℕ) (steps : List (List ℕ)) (o : GroundsOpened) (x : List (List ℕ)) → mostSteps ≤ length steps → Framing.Opens input steps o x
+    → FindPrints narrow input (shownIn (o .line)) × (((a : List ℕ) → Replies narrow input (breach a) → ⊥) → framesFrom x (o .steps) (o .conclusions) (o .literals) 0 ≡ [])
+grounds-prints input steps o x room w = (found-shown input (o .line) (opened-found input steps o x room w), opened-alone input steps o x w)
 
 -- What `verify` prints for an input that was fed to it whole, in whatever pieces.
 pub verify-prints : (text firsts seconds thirds : List ℕ) → Spaces text firsts seconds thirds → (input : List ℕ) (l : Line)

@@ -2,30 +2,31 @@
 --     answers-one       a text and a space have one reply
 --     writes-finds      where there is room, the reply is the finder's
 --     writes-one        two answers to one text have one outcome and one assignment
---     writes-bare       and are equal, with equal columns, where there is no breach
+--     writes-bare       and are equal, with equal runs, where there is no breach
 --     refused-positive  the finder's refusals are from 1 on
---     writes-fit        no answer is that to columns that are unfit
---     writes-many       for a breach the columns hold as many steps as are told
+--     writes-fit        no answer is that to what is unfit
+--     writes-many       for a breach the run holds as many steps as are told
+--     columnOf          word i of each step
 --     writes-accepted   the checker accepts what is written for a breach
 -- Assumes nothing.
-use mathlib.Core.List.{List, []}
+use mathlib.Core.List.{List, [], _∷_, map}
 use mathlib.Core.Path.{_≡_, refl, sym, ap, _∙_, subst}
 use Prim.Native.Nat.{ℕ, _≤_}
 use native.Mathlib.Omega.{arith}
-use lib.ListN.{length, take}
+use lib.ListN.{length, getD, take, length-map}
 use lib.Seq.{length-take-le}
 use Rattle.meaning.specs.Context.{Context}
 use Rattle.meaning.specs.Equality.{Consistent}
 use Rattle.meaning.specs.Rules.{Clause, found, nothing}
 use Rattle.meaning.specs.Text.{narrow, Refusal, Reading, faulty, taken, read}
 use Rattle.meaning.specs.Replies.{Reply, breach, none, refused, replyOf, placesOf, Judged, empty, clashes, answers, Replies, RepliesTo}
-use Rattle.meaning.specs.Grounds.{accepted}
+use Rattle.meaning.specs.Grounds.{Step, accepted}
+use Rattle.meaning.specs.GroundColumns.{stepsFrom}
 use Rattle.meaning.proofs.Answered.{replies-one}
 use Rattle.meaning.proofs.Bounds.{read-bounded}
 use Rattle.search.specs.declared.Kind.the-variants as S
 use Rattle.verifier.specs.declared.Answer.the-variants as Verdict
 use Rattle.verifier.specs.declared.Conclusions.{Conclusions}
-use Rattle.verifier.proofs.Running.{steps-shortest}
 use Rattle.judging.specs.Judgements as J
 use Rattle.judging.specs.Claims.{JudgesTo}
 use Rattle.judging.specs.declared.Outcome.{Outcome as Judgement}
@@ -37,7 +38,8 @@ use Rattle.replies.specs.declared.Outcome.{Outcome}
 use Rattle.replies.specs.declared.Outcome.the-variants as O
 use Rattle.prepared.proofs.Preparing.{found-never}
 use Rattle.finder.proofs.Judging.{told-one}
-use Rattle.writer.specs.Claims.{most, space, Answers, refuses, lacks, replies, Bare, stepsIn, ShownFor, Leaves, Writes}
+use Rattle.grounds_steps.specs.Steps.{stepOf, stepsOf, mostSteps}
+use Rattle.writer.specs.Claims.{Answers, refuses, lacks, replies, Bare, stepsIn, ShownFor, Leaves, Writes}
 use Rattle.writer.specs.Drawing.{outcomeBy}
 use Rattle.writer.specs.declared.Grounds.{Grounds}
 
@@ -54,7 +56,7 @@ answers-one text room x y (replies r q h) (refuses f p) = absurd (found-never f 
 answers-one text room x y (replies r q h) (lacks s p l) = absurd (omega arith)
 answers-one text room x y (replies r q h) (replies s p l) = replies-one narrow text (replyOf r) (replyOf s) q p
 
-answers-replies : (text : List ℕ) (room : ℕ) (x : Reply) → most ≤ room → Answers text room x → Replies narrow text x
+answers-replies : (text : List ℕ) (room : ℕ) (x : Reply) → mostSteps ≤ room → Answers text room x → Replies narrow text x
 answers-replies text room x l (refuses f p) = p
 answers-replies text room x l (lacks r q h) = absurd (omega arith)
 answers-replies text room x l (replies r q h) = q
@@ -83,17 +85,27 @@ told-breach n (breach a) e = (a, refl)
 told-breach n none e = absurd (let z : _≡_ {A = ℕ} 8 9 = cc in omega arith)
 told-breach n (refused f) e = absurd (let z : _≡_ {A = ℕ} 8 10 = cc in omega arith)
 
-module _ (text firsts seconds thirds : List ℕ) where
-  pub writes-finds : (r : Grounds) (x y z : List ℕ) → most ≤ space firsts seconds thirds → Writes text firsts seconds thirds r x y z
+-- word i of each step
+abbrev pub columnOf : ℕ → List (List ℕ) → List ℕ
+columnOf i steps = map (λ (w : List ℕ). getD w i 0) steps
+
+-- three columns say what the words of steps do
+columns-say : (l : List (List ℕ)) → stepsFrom (columnOf 0 l) (columnOf 1 l) (columnOf 2 l) ≡ stepsOf l
+unfolding stepsFrom stepsOf
+columns-say [] = refl
+columns-say (w ∷ l) = ap (λ (z : List Step). stepOf w ∷ z) (columns-say l)
+
+module _ (text : List ℕ) (steps : List (List ℕ)) where
+  pub writes-finds : (r : Grounds) (x : List (List ℕ)) → mostSteps ≤ length steps → Writes text steps r x
       → Finds text (record { outcome = r .outcome; places = r .places })
-  writes-finds r x y z l w =
-      record { reply = w .reply; replies = answers-replies text (space firsts seconds thirds) (w .reply) l (w .answers); told = w .told; places = w .places }
+  writes-finds r x l w =
+      record { reply = w .reply; replies = answers-replies text (length steps) (w .reply) l (w .answers); told = w .told; places = w .places }
 
   -- ---- one answer
 
-  module _ (r q : Grounds) (x y z x′ y′ z′ : List ℕ) (v : Writes text firsts seconds thirds r x y z) (w : Writes text firsts seconds thirds q x′ y′ z′) where
+  module _ (r q : Grounds) (x x′ : List (List ℕ)) (v : Writes text steps r x) (w : Writes text steps q x′) where
     reply-one : v .reply ≡ w .reply
-    reply-one = answers-one text (space firsts seconds thirds) (v .reply) (w .reply) (v .answers) (w .answers)
+    reply-one = answers-one text (length steps) (v .reply) (w .reply) (v .answers) (w .answers)
 
     outcome-one : r .outcome ≡ q .outcome
     outcome-one = told-one (r .outcome) (q .outcome) (v .told ∙ ap toldOf reply-one ∙ sym (w .told))
@@ -101,39 +113,39 @@ module _ (text firsts seconds thirds : List ℕ) where
     pub writes-one : (r .outcome ≡ q .outcome) × (r .places ≡ q .places)
     writes-one = (outcome-one, v .places ∙ ap placesOf reply-one ∙ sym (w .places))
 
-  pub writes-fit : (r : Grounds) (x y z : List ℕ) → Writes text firsts seconds thirds r x y z → r .outcome ≡ outcomeBy S.Unfit → ⊥
-  writes-fit r x y z w e = go (w .reply) (w .answers) (ap toldBy (sym e) ∙ w .told)
+  pub writes-fit : (r : Grounds) (x : List (List ℕ)) → Writes text steps r x → r .outcome ≡ outcomeBy S.Unfit → ⊥
+  writes-fit r x w e = go (w .reply) (w .answers) (ap toldBy (sym e) ∙ w .told)
     where
-      go : (u : Reply) → Answers text (space firsts seconds thirds) u → toldBy (outcomeBy S.Unfit) ≡ toldOf u → ⊥
+      go : (u : Reply) → Answers text (length steps) u → toldBy (outcomeBy S.Unfit) ≡ toldOf u → ⊥
       go u (refuses f p) q = let n : 0 ≡ f .number = cc in omega (arith, refused-positive text f p)
       go u (lacks d p h) q = let n : _≡_ {A = ℕ} 0 10 = cc in omega arith
       go u (replies (found a) p h) q = let n : _≡_ {A = ℕ} 10 8 = cc in omega arith
       go u (replies nothing p h) q = let n : _≡_ {A = ℕ} 10 9 = cc in omega arith
 
-  bare : (r : Grounds) (x y z : List ℕ) → ((n : ℕ) → r .outcome ≡ O.Breach n → ⊥) → (u : Reply) → toldBy (r .outcome) ≡ toldOf u
-      → Leaves firsts seconds thirds r x y z text u
-      → Bare firsts seconds thirds r x y z
-  bare r x y z never (breach a) e w = let t : (n : ℕ) × (r .outcome ≡ O.Breach n) = breach-told (r .outcome) a e in absurd (never (t .0) (t .1))
-  bare r x y z never none e w = w
-  bare r x y z never (refused f) e w = w
+  bare : (r : Grounds) (x : List (List ℕ)) → ((n : ℕ) → r .outcome ≡ O.Breach n → ⊥) → (u : Reply) → toldBy (r .outcome) ≡ toldOf u
+      → Leaves steps r x text u
+      → Bare steps r x
+  bare r x never (breach a) e w = let t : (n : ℕ) × (r .outcome ≡ O.Breach n) = breach-told (r .outcome) a e in absurd (never (t .0) (t .1))
+  bare r x never none e w = w
+  bare r x never (refused f) e w = w
 
-  module _ (r q : Grounds) (x y z x′ y′ z′ : List ℕ) (v : Writes text firsts seconds thirds r x y z) (w : Writes text firsts seconds thirds q x′ y′ z′)
+  module _ (r q : Grounds) (x x′ : List (List ℕ)) (v : Writes text steps r x) (w : Writes text steps q x′)
       (never : (n : ℕ) → r .outcome ≡ O.Breach n → ⊥) where
-    left : Bare firsts seconds thirds r x y z
-    left = bare r x y z never (v .reply) (v .told) (v .leaves)
+    left : Bare steps r x
+    left = bare r x never (v .reply) (v .told) (v .leaves)
 
-    right : Bare firsts seconds thirds q x′ y′ z′
-    right = bare q x′ y′ z′ (λ n e. never n (writes-one r q x y z x′ y′ z′ v w .0 ∙ e)) (w .reply) (w .told) (w .leaves)
+    right : Bare steps q x′
+    right = bare q x′ (λ n e. never n (writes-one r q x x′ v w .0 ∙ e)) (w .reply) (w .told) (w .leaves)
 
     same-parts : {o o′ : Outcome} {a a′ : List ℕ} {n n′ m m′ : ℕ} {d d′ : Conclusions} → o ≡ o′ → a ≡ a′ → n ≡ n′ → m ≡ m′ → d ≡ d′
         → _≡_ {A = Grounds} (record { outcome = o; places = a; steps = n; literals = m; conclusions = d }) (record { outcome = o′; places = a′; steps = n′; literals = m′; conclusions = d′ })
     same-parts e f g h i = rw (e, f, g, h, i)
 
-    pub writes-bare : (r ≡ q) × ((x ≡ x′) × ((y ≡ y′) × (z ≡ z′)))
+    pub writes-bare : (r ≡ q) × (x ≡ x′)
     writes-bare = (
-      same-parts (writes-one r q x y z x′ y′ z′ v w .0) (writes-one r q x y z x′ y′ z′ v w .1) (left .steps ∙ sym (right .steps)) (left .literals ∙ sym (right .literals))
+      same-parts (writes-one r q x x′ v w .0) (writes-one r q x x′ v w .1) (left .count ∙ sym (right .count)) (left .literals ∙ sym (right .literals))
           (left .conclusions ∙ sym (right .conclusions)),
-      (left .first ∙ sym (right .first), (left .second ∙ sym (right .second), left .third ∙ sym (right .third))),
+      left .words ∙ sym (right .words),
     )
 
   -- ---- the checker's answer
@@ -143,14 +155,14 @@ module _ (text firsts seconds thirds : List ℕ) where
   judged-ready c k a u e (clashes l n h) = absurd (let z : _≡_ {A = ℕ} 0 1 = cc in omega arith)
   judged-ready c k a u e (answers l h q w) = (l, h)
 
-  module _ (r : Grounds) (x y z : List ℕ) (w : Writes text firsts seconds thirds r x y z) (n : ℕ) (e : r .outcome ≡ O.Breach n) where
+  module _ (r : Grounds) (x : List (List ℕ)) (w : Writes text steps r x) (n : ℕ) (e : r .outcome ≡ O.Breach n) where
     found-reply : (a : List ℕ) × (w .reply ≡ breach a)
     found-reply = told-breach n (w .reply) (ap toldBy (sym e) ∙ w .told)
 
-    shown : ShownFor firsts seconds thirds r x y z text
-    shown = subst (Leaves firsts seconds thirds r x y z text) (found-reply .1) (w .leaves)
+    shown : ShownFor steps r x text
+    shown = subst (Leaves steps r x text) (found-reply .1) (w .leaves)
 
-    replied : (u : Reply) → u ≡ breach (found-reply .0) → Answers text (space firsts seconds thirds) u → Replies narrow text u
+    replied : (u : Reply) → u ≡ breach (found-reply .0) → Answers text (length steps) u → Replies narrow text u
     replied u f (refuses g p) = p
     replied u f (lacks q p h) = absurd (let o : _≡_ {A = ℕ} 0 1 = cc in omega arith)
     replied u f (replies q p h) = p
@@ -160,30 +172,25 @@ module _ (text firsts seconds thirds : List ℕ) where
         judged-ready (shown .said .ledger .context) (shown .said .clause) (found-reply .0) (w .reply) (found-reply .1)
         (subst (λ (g : Reading). RepliesTo g (w .reply)) (shown .reads) (replied (w .reply) (found-reply .1) (w .answers)))
 
-    roomy : (u : Reply) → u ≡ breach (found-reply .0) → Answers text (space firsts seconds thirds) u → most ≤ space firsts seconds thirds
+    roomy : (u : Reply) → u ≡ breach (found-reply .0) → Answers text (length steps) u → mostSteps ≤ length steps
     roomy u f (refuses g p) = absurd (let o : _≡_ {A = ℕ} 0 1 = cc in omega arith)
     roomy u f (lacks q p h) = absurd (let o : _≡_ {A = ℕ} 0 1 = cc in omega arith)
     roomy u f (replies q p h) = h
 
-    fits : r .steps ≤ space firsts seconds thirds
+    fits : r .steps ≤ length steps
     fits = omega (arith, shown .shown .few, roomy (w .reply) (found-reply .1) (w .answers))
 
-    first-many : length (take (r .steps) x) ≡ r .steps
-    first-many = length-take-le (r .steps) x (omega (arith, fits, shown .shown .first .long))
+    pub writes-many : length (stepsIn (r .steps) x) ≡ r .steps
+    unfolding stepsOf
+    writes-many = length-map (take (r .steps) x) stepOf ∙ length-take-le (r .steps) x (omega (arith, fits, shown .shown .words .long))
 
-    second-many : length (take (r .steps) y) ≡ r .steps
-    second-many = length-take-le (r .steps) y (omega (arith, fits, shown .shown .second .long))
+    -- as the checker's three columns
+    abbrev column : ℕ → List ℕ
+    column i = columnOf i (take (r .steps) x)
 
-    third-many : length (take (r .steps) z) ≡ r .steps
-    third-many = length-take-le (r .steps) z (omega (arith, fits, shown .shown .third .long))
-
-    pub writes-many : length (stepsIn (r .steps) x y z) ≡ r .steps
-    writes-many = omega (arith, steps-shortest (take (r .steps) x) (take (r .steps) y) (take (r .steps) z), first-many, second-many, third-many)
-
-    pub writes-accepted : (o : Judgement) → JudgesTo text (r .places) (take (r .steps) x) (take (r .steps) y) (take (r .steps) z) (r .conclusions) o
-        → o ≡ W.Judged Verdict.Accepted
+    pub writes-accepted : (o : Judgement) → JudgesTo text (r .places) (column 0) (column 1) (column 2) (r .conclusions) o → o ≡ W.Judged Verdict.Accepted
     writes-accepted o j =
-        judges-one text (r .places) (take (r .steps) x) (take (r .steps) y) (take (r .steps) z) (r .conclusions) o (W.Judged Verdict.Accepted) j
+        judges-one text (r .places) (column 0) (column 1) (column 2) (r .conclusions) o (W.Judged Verdict.Accepted) j
         (record {
-          judges = J.judges (shown .said) (shown .reads) (J.judged accepted) (J.weighs (ready .0) (ready .1) accepted (shown .shown .verified));
+          judges = J.judges (shown .said) (shown .reads) (J.judged accepted) (J.weighs (ready .0) (ready .1) accepted (rw (columns-say (take (r .steps) x)) (shown .shown .verified)));
         })

@@ -7,7 +7,7 @@
 -- Assumes nothing.
 use mathlib.Core.List.{List, [], _∷_}
 use mathlib.Core.Path.{_≡_, refl, sym, ap, _∙_, subst}
-use Prim.Native.Nat.{ℕ, _≤_}
+use Prim.Native.Nat.{ℕ, _+_, _-_, _≤_}
 use native.Mathlib.Omega.{arith}
 use lib.ListN.{length}
 use Rattle.meaning.specs.Rules.{Literal, equal, unequal, Clause, found, nothing}
@@ -16,7 +16,7 @@ use Rattle.meaning.specs.Replies as M
 use Rattle.meaning.specs.Replies.{Reply, breach, none, refused, refusal, placesOf, Judged, Replies, RepliesTo}
 use Rattle.meaning.specs.Context.{Context}
 use Rattle.meaning.specs.Grounds.{stepAt, Each, Conclusion, conclusionFor, literalAt, Concludes, Verdict, accepted, Verified, accepts, unassigns, refuses, leaves-open}
-use Rattle.meaning.specs.GroundColumns.{stepsFrom}
+use Rattle.grounds_steps.specs.Steps.{stepsOf, mostEach, mostSteps}
 use Rattle.replies.specs.declared.Refusal.{Refusal}
 use Rattle.replies.specs.Told.{toldOf}
 use Rattle.replies.specs.declared.Outcome.the-variants as O
@@ -24,38 +24,38 @@ use Rattle.finder.proofs.Judging.{told-one}
 use Rattle.judging.specs.Claims.{concludedIn}
 pub use Rattle.judging.proofs.Controls.{lullaby, lullaby-short, lullaby-breach}
 use Rattle.batches.proofs.Owned.{owned-each}
-use Rattle.writer.specs.Claims.{most, space, Answers, lacks, replies, stepsIn, Shown, ShownFor, Leaves, Writes}
+use Rattle.writer.specs.Claims.{Answers, lacks, replies, stepsIn, Shown, ShownFor, Leaves, Writes}
 use Rattle.writer.specs.declared.Grounds.{Grounds}
 use Rattle.writer.proofs.Answers.{answers-one}
 
-pub some-ten : (text : List ℕ) → Replies narrow text none → Answers text 278527 (refused (refusal 10 0))
+pub some-ten : (text : List ℕ) → Replies narrow text none → Answers text (mostSteps - 1) (refused (refusal 10 0))
 some-ten text w = lacks nothing w (omega arith)
 
-pub no-none : (text : List ℕ) → Replies narrow text none → Answers text 278527 none → ⊥
+pub no-none : (text : List ℕ) → Replies narrow text none → Answers text (mostSteps - 1) none → ⊥
 no-none text w a =
-    let e : none ≡ refused (refusal 10 0) = answers-one text 278527 none (refused (refusal 10 0)) a (some-ten text w) in
+    let e : none ≡ refused (refusal 10 0) = answers-one text (mostSteps - 1) none (refused (refusal 10 0)) a (some-ten text w) in
     let z : _≡_ {A = ℕ} 0 1 = cc in
     omega arith
 
-pub some-none : (text : List ℕ) → Replies narrow text none → Answers text 278528 none
+pub some-none : (text : List ℕ) → Replies narrow text none → Answers text mostSteps none
 some-none text w = replies nothing w (omega arith)
 
-pub no-ten : (text : List ℕ) → Replies narrow text none → Answers text 278528 (refused (refusal 10 0)) → ⊥
+pub no-ten : (text : List ℕ) → Replies narrow text none → Answers text mostSteps (refused (refusal 10 0)) → ⊥
 no-ten text w a =
-    let e : refused (refusal 10 0) ≡ none = answers-one text 278528 (refused (refusal 10 0)) none a (some-none text w) in
+    let e : refused (refusal 10 0) ≡ none = answers-one text mostSteps (refused (refusal 10 0)) none a (some-none text w) in
     let z : _≡_ {A = ℕ} 0 1 = cc in
     omega arith
 
 -- whatever writes them, and whoever owns them
-pub no-crowded : (firsts seconds thirds : List ℕ) (r : Grounds) (x y z : List ℕ) (c : Context) (k : Clause) (owner : ℕ) → length (stepsIn (r .steps) x y z) ≡ 16385
-    → Each 16385 (λ i. stepAt (stepsIn (r .steps) x y z) i .owner ≡ owner)
-    → Shown firsts seconds thirds r x y z c k
+pub no-crowded : (steps : List (List ℕ)) (r : Grounds) (x : List (List ℕ)) (c : Context) (k : Clause) (owner : ℕ) → length (stepsIn (r .steps) x) ≡ mostEach + 1
+    → Each (mostEach + 1) (λ i. stepAt (stepsIn (r .steps) x) i .owner ≡ owner)
+    → Shown steps r x c k
     → ⊥
-no-crowded firsts seconds thirds r x y z c k owner e w s =
+no-crowded steps r x c k owner e w s =
     omega (
       arith,
       s .fewEach owner,
-      owned-each owner (stepsIn (r .steps) x y z) (subst (λ (n : ℕ). Each n (λ i. stepAt (stepsIn (r .steps) x y z) i .owner ≡ owner)) (sym e) w),
+      owned-each owner (stepsIn (r .steps) x) (subst (λ (n : ℕ). Each n (λ i. stepAt (stepsIn (r .steps) x) i .owner ≡ owner)) (sym e) w),
     )
 
 -- ---- the lullaby
@@ -84,11 +84,11 @@ stepless c k a ds v e some (unassigns i w) = let z : _≡_ {A = ℕ} 0 1 = cc in
 stepless c k a ds v e some (refuses p i w) = let z : _≡_ {A = ℕ} 0 1 = cc in omega arith
 stepless c k a ds v e some (leaves-open p q i w) = let z : _≡_ {A = ℕ} 0 1 = cc in omega arith
 
-module _ (firsts seconds thirds : List ℕ) (roomy : most ≤ space firsts seconds thirds) (r : Grounds) (x y z : List ℕ)
-    (w : Writes lullaby firsts seconds thirds r x y z) where
+module _ (steps : List (List ℕ)) (roomy : mostSteps ≤ length steps) (r : Grounds) (x : List (List ℕ))
+    (w : Writes lullaby steps r x) where
   pub reply-is : w .reply ≡ breach (0 ∷ 1 ∷ [])
   reply-is =
-      answers-one lullaby (space firsts seconds thirds) (w .reply) (breach (0 ∷ 1 ∷ [])) (w .answers) (replies (found (0 ∷ 1 ∷ [])) lullaby-breach roomy)
+      answers-one lullaby (length steps) (w .reply) (breach (0 ∷ 1 ∷ [])) (w .answers) (replies (found (0 ∷ 1 ∷ [])) lullaby-breach roomy)
 
   pub some-breach : (r .outcome ≡ O.Breach 2) × (r .places ≡ 0 ∷ 1 ∷ 255 ∷ 255 ∷ [])
   unfolding placesOf
@@ -100,12 +100,12 @@ module _ (firsts seconds thirds : List ℕ) (roomy : most ≤ space firsts secon
   pub no-always-refused : (f : Refusal) → r .outcome ≡ O.Refused f → ⊥
   no-always-refused f e = let u : O.Breach 2 ≡ O.Refused f = sym (some-breach .0) ∙ e in let i : _≡_ {A = ℕ} 0 1 = cc in omega arith
 
-  shown : ShownFor firsts seconds thirds r x y z lullaby
-  shown = subst (Leaves firsts seconds thirds r x y z lullaby) reply-is (w .leaves)
+  shown : ShownFor steps r x lullaby
+  shown = subst (Leaves steps r x lullaby) reply-is (w .leaves)
 
   pub no-stepless : r .steps ≡ 0 → ⊥
-  unfolding stepsFrom
+  unfolding stepsOf
   no-stepless e =
       stepless (shown .said .ledger .context) (shown .said .clause) (r .places) (concludedIn (r .conclusions)) accepted refl
       (said-some lullaby (shown .said) (0 ∷ 1 ∷ []) (shown .reads) lullaby-breach)
-      (subst (λ (n : ℕ). Verified (shown .said .ledger .context) (shown .said .clause) (r .places) (stepsIn n x y z) (concludedIn (r .conclusions)) accepted) e (shown .shown .verified))
+      (subst (λ (n : ℕ). Verified (shown .said .ledger .context) (shown .said .clause) (r .places) (stepsIn n x) (concludedIn (r .conclusions)) accepted) e (shown .shown .verified))

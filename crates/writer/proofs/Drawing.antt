@@ -26,6 +26,8 @@ use Rattle.numbering.specs.Entries.{Filled, Fillable}
 use Rattle.numbering.specs.Pairs.{pairsOf, Held}
 use Rattle.numbering.specs.declared.pairs.Pairs.{Pairs}
 use Rattle.numbering.specs.declared.table.Table.{Table}
+use Rattle.grounding.specs.Limits.{draftRun}
+use Rattle.runs.specs.Limits.{mostLiterals}
 use Rattle.grounding.specs.Classes.{Left}
 use Rattle.grounding.specs.Rounds.{blank, started, stated, rounds}
 use Rattle.grounding.specs.Concluding.{said as sayOf, ownerOf}
@@ -101,7 +103,7 @@ module _ (c : ContextColumns) (k : ClauseColumns) (t : Table) where
     pub fits-rows : c .rows ≤ 319
     fits-rows = omega (arith, fits .asks .held .fit .rows-few)
 
-    pub fits-literals : k .literals ≤ 16
+    pub fits-literals : k .literals ≤ mostLiterals
     fits-literals = fits .asks .clause .literals-few
 
   module _ (l r : List ℕ) (m : ℕ) where
@@ -160,7 +162,7 @@ module _ (k : ClauseColumns) (j : ℕ) (inside : j < k .literals) where
   unfolding ownerOf literalOf
   owner-unequal d = rw (literal-is k j inside, ne-eqb (getD (k .signs) j 0) 6 d, literalOf, ownerOf) (omega arith)
 
-pub close-blank : {cells table : List ℕ} → cells ≡ replicate 114689 0 → table ≡ replicate 638 0 → Left cells table blank
+pub close-blank : {cells table : List ℕ} → cells ≡ replicate draftRun 0 → table ≡ replicate 638 0 → Left cells table blank
 unfolding blank
 close-blank e f = record { column = e; classes = f }
 

@@ -1,21 +1,21 @@
--- The answers with nothing written, and the test of the lent space, as the code makes them.
+-- The answers with nothing written, as the code makes them.
 --     mine   what these functions leave to show
 -- Assumes nothing.
 use mathlib.Core.List.{List}
 use mathlib.Core.Path.{_≡_, refl}
-use Prim.Native.Nat.{ℕ, min}
+use Prim.Native.Nat.{ℕ}
 use borrow.Author.Needs.{needs}
-use lib.Dec.{ltb}
-use lib.ListN.{length, replicate}
+use lib.ListN.{replicate}
 use Rattle.replies.specs.declared.Refusal.{Refusal}
 use Rattle.verifier.specs.declared.Conclusions.{Conclusions}
 use Rattle.replies.specs.declared.Outcome.{Outcome}
 use Rattle.replies.specs.declared.Outcome.the-variants.{Refused}
-use Rattle.writer.specs.Claims.{most, space, noConclusions}
+use Rattle.runs.specs.Limits.{mostLiterals}
+use Rattle.writer.specs.Claims.{noConclusions}
 use Rattle.writer.specs.Drawing.{bareWith, refusedWith}
 use Rattle.writer.specs.declared.Grounds.{Grounds}
 
-pub none-made : record { firsts = replicate 16 0; differences = replicate 16 0 } ≡ noConclusions
+pub none-made : record { firsts = replicate mostLiterals 0; differences = replicate mostLiterals 0 } ≡ noConclusions
 unfolding noConclusions
 none-made = refl
 
@@ -28,7 +28,4 @@ pub refused-made : (x : Refusal) (r : Grounds) → r ≡ bareWith (Refused x) (r
 unfolding refusedWith
 refused-made x r e = e
 
-pub cramped-made : (xs ys zs : List ℕ) (a b : ℕ) → a ≡ min (length xs) b → b ≡ min (length ys) (length zs) → ltb a most ≡ ltb (space xs ys zs) most
-cramped-made xs ys zs a b e f = rw (e, f)
-
-pub ruleset mine = (needs, none-made, bare-made, refused-made, cramped-made)
+pub ruleset mine = (needs, none-made, bare-made, refused-made)

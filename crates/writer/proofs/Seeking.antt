@@ -75,13 +75,13 @@ module _ (c : ContextColumns) (table : List ℕ) (k : ClauseColumns) (w : Seekab
           holds = placed-holds (said c) (asked k) (t .0) (w .breach (t .0) (t .1));
         }
 
-    module _ (firsts seconds thirds : List ℕ) where
+    module _ (steps : List (List ℕ)) where
       pub seek-clear : x .kind ≡ S.Clear → (o : Outcome) → o ≡ outcomeBy (x .kind) → (y : Grounds) → y ≡ bareWith o (x .places)
-          → Sought c table k firsts seconds thirds y firsts seconds thirds
+          → Sought c table k steps y steps
       unfolding bareWith placesOf answerOf
       seek-clear e o told y q = rw q (go (foundBy (said c) table (asked k)) refl)
         where
-          go : (f : Found) → foundBy (said c) table (asked k) ≡ f → Sought c table k firsts seconds thirds (bareWith o (x .places)) firsts seconds thirds
+          go : (f : Found) → foundBy (said c) table (asked k) ≡ f → Sought c table k steps (bareWith o (x .places)) steps
           go (found a) f = absurd (let z : S.Clear ≡ S.Breach (length a) = sym e ∙ answer-found (found a) f .0 in let i : _≡_ {A = ℕ} 0 1 = cc in omega arith)
           go nothing f =
               record {
@@ -89,10 +89,10 @@ module _ (c : ContextColumns) (table : List ℕ) (k : ClauseColumns) (w : Seekab
                 finds = f;
                 told = ap toldBy (told ∙ ap outcomeBy (answer-found nothing f .0));
                 places = answer-found nothing f .1;
-                leaves = record { steps = refl; literals = refl; conclusions = refl; first = refl; second = refl; third = refl };
+                leaves = record { count = refl; literals = refl; conclusions = refl; words = refl };
               }
 
-      pub seek-unfit : x .kind ≡ S.Unfit → {y : Grounds} → Sought c table k firsts seconds thirds y firsts seconds thirds
+      pub seek-unfit : x .kind ≡ S.Unfit → {y : Grounds} → Sought c table k steps y steps
       unfolding answerOf
       seek-unfit e = absurd (go (foundBy (said c) table (asked k)) refl)
         where
@@ -100,9 +100,9 @@ module _ (c : ContextColumns) (table : List ℕ) (k : ClauseColumns) (w : Seekab
           go (found a) f = let z : S.Unfit ≡ S.Breach (length a) = sym e ∙ answer-found (found a) f .0 in let i : _≡_ {A = ℕ} 0 1 = cc in omega arith
           go nothing f = let z : S.Unfit ≡ S.Clear = sym e ∙ answer-found nothing f .0 in let i : _≡_ {A = ℕ} 0 1 = cc in omega arith
 
-      pub seek-drawn : (n : ℕ) → x .kind ≡ S.Breach n → {y : Grounds} {firsts′ seconds′ thirds′ : List ℕ}
-          → Draws c k n (x .places) firsts seconds thirds y firsts′ seconds′ thirds′
-          → Sought c table k firsts seconds thirds y firsts′ seconds′ thirds′
+      pub seek-drawn : (n : ℕ) → x .kind ≡ S.Breach n → {y : Grounds} {steps′ : List (List ℕ)}
+          → Draws c k n (x .places) steps y steps′
+          → Sought c table k steps y steps′
       seek-drawn n e d =
           let t : (a : List ℕ) × (foundBy (said c) table (asked k) ≡ found a) × (n ≡ length a) × (x .places ≡ placesOf (breach a)) = told-found n e in
           record {

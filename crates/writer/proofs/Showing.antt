@@ -2,8 +2,7 @@
 --     used-alike              whether a step is used rests on the conclusions alone
 --     Far                     what holds after so many literals
 --     far-to                  it does, where the column of each of them holds numbers of 16 bits
---     far-most, far-kinded    a literal's steps fit their column, and each kind a byte
---     far-few                 there is a number for each step written after them
+--     far-sendable            a literal's steps fit their column, each kind a byte, and there is a number for each step written after them
 --     drawn-shown             the columns and conclusions that are left
 -- Assumes nothing.
 use mathlib.Core.List.{List, [], append-nil}
@@ -28,10 +27,12 @@ use Rattle.batches.specs.Sending.{stepsIn as stepsOf, Small}
 use Rattle.batches.specs.Drawing.{Drawn, drawn, endWritten, Used, by-step, by-end, ownedBy}
 use Rattle.batches.proofs.Marks.{draft-at}
 use Rattle.batches.proofs.Draws.{Drawing}
-use Rattle.batches.proofs.Breaches.{breach-said, breach-start, breach-next, breach-accepted, breach-each}
-use Rattle.emitting.specs.Emitting.{Kinded}
+use Rattle.batches.proofs.Breaches.{breach-shared, breach-said, breach-start, breach-next, breach-accepted, breach-each}
+use Rattle.emitting.specs.Emitting.{Kinded, Sendable}
 use Rattle.replies.specs.declared.Outcome.{Outcome}
-use Rattle.writer.specs.Claims.{most, mostEach, space, Shown}
+use Rattle.runs.specs.Limits.{mostRows, mostPatterns, mostLiterals}
+use Rattle.grounds_steps.specs.Steps.{mostEach, mostSteps}
+use Rattle.writer.specs.Claims.{Shown}
 use Rattle.writer.specs.Drawing.{sizeOf, settledOf, saidFor, saidOf, turnsOf, endsWith}
 
 used-alike : (steps : List Step) (f g : ℕ → Conclusion) (n p : ℕ) → ((j : ℕ) → j < n → f j ≡ g j) → Used steps f n p → Used steps g n p
@@ -63,48 +64,50 @@ module _ (c : Context) (k : Clause) (a : List ℕ) where
 
 module _ (c : Context) (k : Clause) (a : List ℕ) (formed : Formed c k)
     (chosen : Each (variables (k .patterns)) (λ v. (v < length a) × (getD a v 0 < length (c .rows)))) (hold : AllHold c (instancesOf c k a) (k .literals)) (t : Table)
-    (filled : Filled (entries (c .rows) a (k .patterns)) t (sizeOf c k)) (fewRows : length (c .rows) ≤ 255) (fewPatterns : length (k .patterns) ≤ 64)
-    (fewLiterals : length (k .literals) ≤ 16) (firsts seconds thirds : List ℕ) (room : most ≤ space firsts seconds thirds) where
-  room₁ : 112320 ≤ length firsts
-  room₁ = omega (arith, room)
-
-  room₂ : 112320 ≤ length seconds
-  room₂ = omega (arith, room)
-
-  room₃ : 112320 ≤ length thirds
-  room₃ = omega (arith, room)
+    (filled : Filled (entries (c .rows) a (k .patterns)) t (sizeOf c k)) (fewRows : length (c .rows) ≤ mostRows) (fewPatterns : length (k .patterns) ≤ mostPatterns)
+    (fewLiterals : length (k .literals) ≤ mostLiterals) (steps : List (List ℕ)) (room : mostSteps ≤ length steps) where
+  room′ : 112320 ≤ length steps
+  room′ = omega (arith, room)
 
   abbrev to : ℕ → Drawn
-  to j = turnsOf c k t j firsts seconds thirds
+  to j = turnsOf c k t j steps
 
   abbrev pub Far : ℕ → Type 0
-  Far j = Drawing c k a (settledOf c k t) firsts seconds thirds j (to j)
+  Far j = Drawing c k a (settledOf c k t) steps j (to j)
 
   far-start : Far 0
   unfolding turnsOf settledOf
-  far-start = breach-start c k a formed chosen hold t filled fewRows fewPatterns fewLiterals firsts seconds thirds room₁ room₂ room₃
+  far-start = breach-start c k a formed chosen hold t filled fewRows fewPatterns fewLiterals steps room′
 
   far-next : (j : ℕ) → j < length (k .literals) → Small (saidOf c k t j (to j .cells) .cells) → Far j → Far (suc j)
   unfolding turnsOf settledOf saidFor saidOf
-  far-next = breach-next c k a formed chosen hold t filled fewRows fewPatterns fewLiterals firsts seconds thirds room₁ room₂ room₃
+  far-next = breach-next c k a formed chosen hold t filled fewRows fewPatterns fewLiterals steps room′
 
   pub far-to : (j : ℕ) → j ≤ length (k .literals) → ((i : ℕ) → i < j → Small (saidOf c k t i (to i .cells) .cells)) → Far j
   far-to zero h small = far-start
   far-to (suc j) h small = far-next j (omega arith) (small j (omega arith)) (far-to j (omega arith) (λ i l. small i (omega arith)))
 
   module _ (j : ℕ) (h : j < length (k .literals)) (w : Far j) where
-    pub far-most : countIn (saidOf c k t j (to j .cells) .cells) ≤ 16384
+    pub far-sendable : Sendable (saidOf c k t j (to j .cells) .cells) (to j .out .news) (to j .out .next)
     unfolding settledOf saidFor saidOf
-    far-most = omega (arith, breach-said c k a formed chosen hold t filled fewRows fewPatterns fewLiterals j h (to j .cells) (w .under) .most)
-
-    pub far-kinded : Kinded (saidOf c k t j (to j .cells) .cells)
-    unfolding settledOf saidFor saidOf
-    far-kinded =
-        follow-kinded c k a (length (c .rows)) (countIn (settledOf c k t .cells)) (ownerOf j (literalAt (k .literals) j)) (saidOf c k t j (to j .cells) .cells)
-        (breach-said c k a formed chosen hold t filled fewRows fewPatterns fewLiterals j h (to j .cells) (w .under) .follow)
-
-    pub far-few : to j .out .next ≤ 262144
-    far-few = omega (arith, w .most, fewLiterals)
+    far-sendable =
+        record {
+          places =
+              omega (
+                arith,
+                breach-said c k a formed chosen hold t filled fewRows fewPatterns fewLiterals j h (to j .cells) (w .under) .most,
+                breach-said c k a formed chosen hold t filled fewRows fewPatterns fewLiterals j h (to j .cells) (w .under) .under .long,
+                breach-shared c k a formed chosen hold t filled fewRows fewPatterns fewLiterals .going .sound .good .long,
+              );
+          most = omega (arith, breach-said c k a formed chosen hold t filled fewRows fewPatterns fewLiterals j h (to j .cells) (w .under) .most);
+          numbers =
+              omega (arith, breach-said c k a formed chosen hold t filled fewRows fewPatterns fewLiterals j h (to j .cells) (w .under) .most, w .numbers);
+          kinded =
+              follow-kinded c k a (length (c .rows)) (countIn (settledOf c k t .cells)) (ownerOf j (literalAt (k .literals) j)) (saidOf c k t j (to j .cells) .cells)
+              (breach-said c k a formed chosen hold t filled fewRows fewPatterns fewLiterals j h (to j .cells) (w .under) .follow);
+          few =
+              omega (arith, breach-said c k a formed chosen hold t filled fewRows fewPatterns fewLiterals j h (to j .cells) (w .under) .most, w .most, fewLiterals);
+        }
 
   -- ---- all of them
 
@@ -115,8 +118,8 @@ module _ (c : Context) (k : Clause) (a : List ℕ) (formed : Formed c k)
     abbrev end : Drawn
     end = to m
 
-    abbrev steps : List Step
-    steps = stepsOf (end .out)
+    abbrev made : List Step
+    made = stepsOf (end .out)
 
     abbrev d : Conclusions
     d = endsWith (end .ends) (end .differences)
@@ -128,26 +131,26 @@ module _ (c : Context) (k : Clause) (a : List ℕ) (formed : Formed c k)
     unfolding endsWith
     said j h =
         ap (conclusionFor (suc j)) (sym (append-nil (concludedIn d)))
-        ∙ conclusions-at (end .ends) (end .differences) 16 j [] (omega (arith, fewLiterals))
+        ∙ conclusions-at (end .ends) (end .differences) mostLiterals j [] (omega (arith, fewLiterals))
 
-    verified : Verified c k a steps (concludedIn d) accepted
+    verified : Verified c k a made (concludedIn d) accepted
     unfolding turnsOf settledOf drawn
     verified =
-        breach-accepted c k a formed chosen hold t filled fewRows fewPatterns fewLiterals firsts seconds thirds room₁ room₂ room₃ done (concludedIn d) said
+        breach-accepted c k a formed chosen hold t filled fewRows fewPatterns fewLiterals steps room′ done (concludedIn d) said
 
-    used : (p : ℕ) → p < end .out .next → Used steps (λ j. conclusionFor (suc j) (concludedIn d)) m p
-    used p h = used-alike steps (endWritten end) (λ j. conclusionFor (suc j) (concludedIn d)) m p (λ j l. sym (said j l)) (done .used p h)
+    used : (p : ℕ) → p < end .out .next → Used made (λ j. conclusionFor (suc j) (concludedIn d)) m p
+    used p h = used-alike made (endWritten end) (λ j. conclusionFor (suc j) (concludedIn d)) m p (λ j l. sym (said j l)) (done .used p h)
 
-    few : end .out .next ≤ most
+    few : end .out .next ≤ mostSteps
     few = omega (arith, done .most, fewLiterals)
 
-    few-each : (owner : ℕ) → ownedBy owner steps ≤ mostEach
+    few-each : (owner : ℕ) → ownedBy owner made ≤ mostEach
     unfolding turnsOf settledOf drawn
     few-each owner =
-        omega (arith, breach-each c k a formed chosen hold t filled fewRows fewPatterns fewLiterals firsts seconds thirds room₁ room₂ room₃ done owner)
+        omega (arith, breach-each c k a formed chosen hold t filled fewRows fewPatterns fewLiterals steps room′ done owner)
 
     pub drawn-shown : (o : Outcome)
-        → Shown firsts seconds thirds (record { outcome = o; places = a; steps = end .out .next; literals = m; conclusions = d }) (end .out .firsts) (end .out .seconds) (end .out .thirds) c k
+        → Shown steps (record { outcome = o; places = a; steps = end .out .next; literals = m; conclusions = d }) (end .out .steps) c k
     unfolding stepsOf
     drawn-shown o =
         record {
@@ -156,7 +159,5 @@ module _ (c : Context) (k : Clause) (a : List ℕ) (formed : Formed c k)
           fewEach = few-each;
           verified = verified;
           used = used;
-          first = record { long = done .long₁; rest = done .rest₁ };
-          second = record { long = done .long₂; rest = done .rest₂ };
-          third = record { long = done .long₃; rest = done .rest₃ };
+          words = record { long = done .long; rest = done .rest };
         }

@@ -2,7 +2,7 @@
 --     stands-is     what is at hand is what is written
 --     turn-..       the turn of one literal
 --     Turning       a loop over literals: what is at hand after the first so many
---     turning-..    its start, its next turn and its end; what a turn asks; the columns keep their lengths
+--     turning-..    its start, its next turn and its end; what a turn asks; the run keeps its length
 --     draw-..       the whole
 --     mine          what these functions leave to show
 -- Assumes nothing.
@@ -15,7 +15,7 @@ use native.Mathlib.Omega.{arith}
 use borrow.Author.Needs.{needs}
 use borrow.Author.Tests.{ltb-true, ltb-false}
 use lib.Dec.{ltb}
-use lib.ListN.{length, getD, set, replicate}
+use lib.ListN.{length, getD, set, replicate, length-replicate}
 use Rattle.meaning.specs.Grounds.{literalAt}
 use Rattle.ledger.specs.declared.ContextColumns.{ContextColumns}
 use Rattle.ledger.specs.declared.ClauseColumns.{ClauseColumns}
@@ -26,68 +26,60 @@ use Rattle.numbering.specs.declared.table.Table.{Table}
 use Rattle.grounding.specs.Draft.{countIn}
 use Rattle.grounding.specs.Classes.{Left, upto}
 use Rattle.grounding.specs.Concluding.{Said, ownerOf}
-use Rattle.batches.specs.Sending.{newOf, Out, batch, Small}
+use Rattle.batches.specs.Sending.{newOf, Out, outOf, batch, Small}
 use Rattle.batches.specs.Drawing.{Drawn, blankDrawn, drawSaid, drawOne, drawnTo}
 use Rattle.concluding.specs.Saying.{Says}
-use Rattle.emitting.specs.Emitting.{Kinded, Holds, Batched}
-use Rattle.writer.specs.Claims.{most, space, Shown}
+use Rattle.emitting.specs.Emitting.{Batched, Sendable}
+use Rattle.runs.specs.Limits.{mostRows, mostPatterns, mostLiterals}
+use Rattle.grounds_steps.specs.Steps.{mostSteps}
+use Rattle.grounding.specs.Limits.{numberRun}
+use Rattle.writer.specs.Claims.{Shown}
 use Rattle.writer.specs.Drawing.{Tabled, Fits, settledOf, saidFor, saidOf, turnOf, turnsOf, Shares, Stands, Sayable, Turned, Drawable, Drew, endsWith, Draws}
 use Rattle.writer.proofs.Drawing.{rows-long, patterns-long, literals-long, tabled-fits, close-blank}
-use Rattle.writer.proofs.Showing.{Far, far-to, far-most, far-kinded, far-few, drawn-shown}
+use Rattle.writer.proofs.Showing.{Far, far-to, far-sendable, drawn-shown}
 
-holds-is : {news firsts seconds thirds : List ℕ} {next : ℕ} {o : Out} → Holds news next firsts seconds thirds o
-    → _≡_ {A = Out} (record { news = news; next = next; firsts = firsts; seconds = seconds; thirds = thirds }) o
-holds-is w = rw (w .numbers, w .last, w .first, w .second, w .third)
-
-pub stands-is : {cells news firsts seconds thirds ends differences : List ℕ} {next : ℕ} {d : Drawn} → Stands cells news next firsts seconds thirds ends differences d
-    → _≡_ {A = Drawn} (record { cells = cells; out = record { news = news; next = next; firsts = firsts; seconds = seconds; thirds = thirds }; ends = ends; differences = differences }) d
-stands-is w = rw (w .column, holds-is (w .out), w .steps, w .stated)
+pub stands-is : {cells ends differences : List ℕ} {out : Out} {d : Drawn} → Stands cells out ends differences d
+    → _≡_ {A = Drawn} (record { cells = cells; out = out; ends = ends; differences = differences }) d
+stands-is w = rw (w .column, w .written, w .steps, w .stated)
 
 -- ---- one turn
 
-module _ (c : ContextColumns) (k : ClauseColumns) (t : Table) (j : ℕ) {cells : List ℕ} {next : ℕ} (w : Sayable c k t j cells next) where
+module _ (c : ContextColumns) (k : ClauseColumns) (t : Table) (j : ℕ) {cells news : List ℕ} {next : ℕ} (w : Sayable c k t j cells news next) where
   pub turn-fits : Fits c k t
   turn-fits = w .fits
 
   pub turn-inside : j < k .literals
   turn-inside = w .inside
 
-  pub turn-literals : k .literals ≤ 16
+  pub turn-literals : k .literals ≤ mostLiterals
   turn-literals = w .fits .asks .clause .literals-few
 
-  pub turn-place : j < 16
+  pub turn-place : j < mostLiterals
   turn-place = omega (arith, turn-literals, w .inside)
 
-  pub turn-few : next ≤ 262144
-  turn-few = w .few
-
-  module _ {after : List ℕ} {first difference : ℕ} (s : Says after first difference (saidOf (said c) (asked k) t j cells)) where
-    pub turn-most : countIn after ≤ 16384
-    turn-most = rw (s .column) (w .most)
-
-    pub turn-kinded : Kinded after
-    turn-kinded = subst Kinded (sym (s .column)) (w .kinded)
+  pub turn-sendable : {after : List ℕ} {first difference : ℕ} → Says after first difference (saidOf (said c) (asked k) t j cells) → Sendable after news next
+  turn-sendable s = subst (λ (l : List ℕ). Sendable l news next) (sym (s .column)) (w .sendable)
 
 batch-alike : (o : Out) {rows rows′ from from′ owner owner′ s s′ : ℕ} {cells cells′ : List ℕ} → rows ≡ rows′ → from ≡ from′ → owner ≡ owner′ → cells ≡ cells′ → s ≡ s′
     → batch rows from owner cells s o ≡ batch rows′ from′ owner′ cells′ s′ o
 batch-alike o e f g h i = rw (e, f, g, h, i)
 
-pub turn-turned : (c : ContextColumns) (k : ClauseColumns) (t : Table) (j : ℕ) (d : Drawn) {classes cells news firsts seconds thirds : List ℕ}
+pub turn-turned : (c : ContextColumns) (k : ClauseColumns) (t : Table) (j : ℕ) (d : Drawn) {classes cells news : List ℕ} {steps : List (List ℕ)}
     {from shared first difference owner next end : ℕ} → Shares (said c) (asked k) t classes from
     → Says cells first difference (saidOf (said c) (asked k) t j (d .cells))
     → owner ≡ ownerOf j (literalAt (asked k .literals) j)
     → shared ≡ from
-    → Batched (c .rows) shared owner cells first (d .out) news next firsts seconds thirds
+    → Batched (c .rows) shared owner cells first (d .out) (outOf news next steps)
     → end ≡ newOf news first
-    → Turned (said c) (asked k) t j d cells news next firsts seconds thirds (set (d .ends) j end) (set (d .differences) j difference)
+    → Turned (said c) (asked k) t j d cells (outOf news next steps) (set (d .ends) j end) (set (d .differences) j difference)
 unfolding turnOf drawOne drawSaid saidFor saidOf
-turn-turned c k t j d {classes} {cells} {news} {firsts} {seconds} {thirds} {from} {shared} {first} {difference} {owner} {next} {end} shares says own same sent e =
+turn-turned c k t j d {classes} {cells} {news} {steps} {from} {shared} {first} {difference} {owner} {next} {end} shares says own same sent e =
     record {
       stands =
           record {
             column = says .column;
-            out = out;
-            steps = ap (set (d .ends) j) (e ∙ ap₂ newOf (out .numbers) (says .step));
+            written = out;
+            steps = ap (set (d .ends) j) (e ∙ ap₂ newOf (ap (λ (o : Out). o .news) out) (says .step));
             stated = ap (set (d .differences) j) (says .stated);
           };
       small = subst Small (says .column) (sent .small);
@@ -96,44 +88,40 @@ turn-turned c k t j d {classes} {cells} {news} {firsts} {seconds} {thirds} {from
     s : Said
     s = saidOf (said c) (asked k) t j (d .cells)
 
-    out : Holds news next firsts seconds thirds
-        (batch (length (said c .rows)) (countIn (settledOf (said c) (asked k) t .cells)) (ownerOf j (literalAt (asked k .literals) j)) (s .cells) (s .first) (d .out))
-    out =
-        subst (Holds news next firsts seconds thirds)
-        (batch-alike (d .out) (sym (rows-long c)) (same ∙ shares .many) own (says .column) (says .step))
-        (sent .out)
+    out : outOf news next steps
+        ≡ batch (length (said c .rows)) (countIn (settledOf (said c) (asked k) t .cells)) (ownerOf j (literalAt (asked k .literals) j)) (s .cells) (s .first) (d .out)
+    out = sent .out ∙ batch-alike (d .out) (sym (rows-long c)) (same ∙ shares .many) own (says .column) (says .step)
 
 -- ---- all of them
 
-module _ (c : ContextColumns) (k : ClauseColumns) (t : Table) (firsts seconds thirds : List ℕ) where
+module _ (c : ContextColumns) (k : ClauseColumns) (t : Table) (steps : List (List ℕ)) where
   abbrev to : ℕ → Drawn
-  to j = turnsOf (said c) (asked k) t j firsts seconds thirds
+  to j = turnsOf (said c) (asked k) t j steps
 
-  pub record Turning (j : ℕ) (cells news : List ℕ) (next : ℕ) (firsts′ seconds′ thirds′ ends differences : List ℕ) : Type 0 where
-    pub stands : Stands cells news next firsts′ seconds′ thirds′ ends differences (to j)
+  pub record Turning (j : ℕ) (cells : List ℕ) (out : Out) (ends differences : List ℕ) : Type 0 where
+    pub stands : Stands cells out ends differences (to j)
     pub small : (i : ℕ) → i < j → Small (saidOf (said c) (asked k) t i (to i .cells) .cells)
     pub reach : j ≤ k .literals
-    pub few : k .literals ≤ 16
+    pub few : k .literals ≤ mostLiterals
 
-  pub turning-start : {cells classes news ends differences : List ℕ} → Drawable c k t firsts seconds thirds → Left cells classes (settledOf (said c) (asked k) t) → news ≡ replicate 16385 0 → ends ≡ replicate 16 0
-      → differences ≡ replicate 16 0
-      → Turning 0 cells news 0 firsts seconds thirds ends differences
+  pub turning-start : {cells classes news ends differences : List ℕ} → Drawable c k t steps → Left cells classes (settledOf (said c) (asked k) t) → news ≡ replicate numberRun 0
+      → ends ≡ replicate mostLiterals 0
+      → differences ≡ replicate mostLiterals 0
+      → Turning 0 cells (outOf news 0 steps) ends differences
   unfolding turnsOf drawnTo upto blankDrawn
   turning-start d w e f g =
       record {
-        stands = record { column = w .column; out = record { numbers = e; last = refl; first = refl; second = refl; third = refl }; steps = f; stated = g };
+        stands = record { column = w .column; written = ap (λ (l : List ℕ). outOf l 0 steps) e; steps = f; stated = g };
         small = λ i h. absurd (omega arith);
         reach = omega arith;
         few = d .tabled .broken .asks .clause .literals-few;
       }
 
-  pub turning-next : {j : ℕ} {cells news firsts′ seconds′ thirds′ ends differences cells₁ news₁ firsts₁ seconds₁ thirds₁ ends₁ differences₁ : List ℕ} {next next₁ : ℕ}
-      → Turning j cells news next firsts′ seconds′ thirds′ ends differences
-      → j < k .literals
-      → Turned (said c) (asked k) t j (record { cells = cells; out = record { news = news; next = next; firsts = firsts′; seconds = seconds′; thirds = thirds′ }; ends = ends; differences = differences }) cells₁ news₁ next₁ firsts₁ seconds₁ thirds₁ ends₁ differences₁
-      → Turning (j + 1) cells₁ news₁ next₁ firsts₁ seconds₁ thirds₁ ends₁ differences₁
+  pub turning-next : {j : ℕ} {cells ends differences cells₁ ends₁ differences₁ : List ℕ} {out out₁ : Out} → Turning j cells out ends differences → j < k .literals
+      → Turned (said c) (asked k) t j (record { cells = cells; out = out; ends = ends; differences = differences }) cells₁ out₁ ends₁ differences₁
+      → Turning (j + 1) cells₁ out₁ ends₁ differences₁
   unfolding turnsOf turnOf drawnTo upto
-  turning-next {j} {cells} {news} {firsts′} {seconds′} {thirds′} {ends} {differences} {cells₁} {news₁} {firsts₁} {seconds₁} {thirds₁} {ends₁} {differences₁} {next} {next₁} w h e =
+  turning-next {j} {cells} {ends} {differences} {cells₁} {ends₁} {differences₁} {out} {out₁} w h e =
       rw add-one
       record {
         stands = after .stands;
@@ -142,24 +130,23 @@ module _ (c : ContextColumns) (k : ClauseColumns) (t : Table) (firsts seconds th
         few = w .few;
       }
     where
-      after : Turned (said c) (asked k) t j (to j) cells₁ news₁ next₁ firsts₁ seconds₁ thirds₁ ends₁ differences₁
-      after =
-          subst (λ (d : Drawn). Turned (said c) (asked k) t j d cells₁ news₁ next₁ firsts₁ seconds₁ thirds₁ ends₁ differences₁) (stands-is (w .stands)) e
+      after : Turned (said c) (asked k) t j (to j) cells₁ out₁ ends₁ differences₁
+      after = subst (λ (d : Drawn). Turned (said c) (asked k) t j d cells₁ out₁ ends₁ differences₁) (stands-is (w .stands)) e
 
       go : (i : ℕ) → i < suc j → (b : Bool) → ltb i j ≡ b → Small (saidOf (said c) (asked k) t i (to i .cells) .cells)
       go i l true f = w .small i (ltb-true i j f)
       go i l false f =
           let z : j ≡ i = omega (arith, ltb-false i j f) in subst (λ (x : ℕ). Small (saidOf (said c) (asked k) t x (to x .cells) .cells)) z (after .small)
 
-  pub turning-done : {j : ℕ} {cells news firsts′ seconds′ thirds′ ends differences : List ℕ} {next : ℕ} → Turning j cells news next firsts′ seconds′ thirds′ ends differences
+  pub turning-done : {j : ℕ} {cells news ends differences : List ℕ} {next : ℕ} {steps′ : List (List ℕ)} → Turning j cells (outOf news next steps′) ends differences
       → k .literals ≤ j
-      → Drew (said c) (asked k) t firsts seconds thirds next firsts′ seconds′ thirds′ ends differences
-  turning-done {j} {cells} {news} {firsts′} {seconds′} {thirds′} {ends} {differences} {next} w h =
+      → Drew (said c) (asked k) t steps next steps′ ends differences
+  turning-done {j} {cells} {news} {ends} {differences} {next} {steps′} w h =
       let z : j ≡ length (asked k .literals) = omega (arith, w .reach, literals-long k) in
       record {
         cells = cells;
         news = news;
-        stands = subst (λ (i : ℕ). Stands cells news next firsts′ seconds′ thirds′ ends differences (to i)) z (w .stands);
+        stands = subst (λ (i : ℕ). Stands cells (outOf news next steps′) ends differences (to i)) z (w .stands);
         small = λ i l. w .small i (omega arith);
       }
 
@@ -169,92 +156,83 @@ pub turning-shares : (c : ContextColumns) (k : ClauseColumns) (t : Table) {cells
     → Shares (said c) (asked k) t classes from
 turning-shares c k t w e = record { closed = w .classes; many = e ∙ ap countIn (w .column) }
 
-module _ (c : ContextColumns) (k : ClauseColumns) (a : List ℕ) (t : Table) (w : Tabled c k a t) (firsts seconds thirds : List ℕ) (room : most ≤ space firsts seconds thirds) where
-  few-rows : length (said c .rows) ≤ 255
+module _ (c : ContextColumns) (k : ClauseColumns) (a : List ℕ) (t : Table) (w : Tabled c k a t) (steps : List (List ℕ)) (room : mostSteps ≤ length steps) where
+  few-rows : length (said c .rows) ≤ mostRows
   few-rows = omega (arith, rows-long c, w .broken .asks .held .fit .rows-few)
 
-  few-patterns : length (asked k .patterns) ≤ 64
+  few-patterns : length (asked k .patterns) ≤ mostPatterns
   few-patterns = omega (arith, patterns-long k, w .broken .asks .clause .patterns-few)
 
-  few-literals : length (asked k .literals) ≤ 16
+  few-literals : length (asked k .literals) ≤ mostLiterals
   few-literals = omega (arith, literals-long k, w .broken .asks .clause .literals-few)
 
-  module _ (j : ℕ) {cells news firsts′ seconds′ thirds′ ends differences : List ℕ} {next : ℕ}
-      (at : Turning c k t firsts seconds thirds j cells news next firsts′ seconds′ thirds′ ends differences) where
-    far : Far (said c) (asked k) a (w .broken .asks .formed) (w .broken .chosen) (w .broken .holds) t (w .filled) few-rows few-patterns few-literals firsts seconds thirds room j
+  module _ (j : ℕ) {cells ends differences : List ℕ} {out : Out} (at : Turning c k t steps j cells out ends differences) where
+    far : Far (said c) (asked k) a (w .broken .asks .formed) (w .broken .chosen) (w .broken .holds) t (w .filled) few-rows few-patterns few-literals steps room j
     far =
-        far-to (said c) (asked k) a (w .broken .asks .formed) (w .broken .chosen) (w .broken .holds) t (w .filled) few-rows few-patterns few-literals firsts seconds thirds room j
+        far-to (said c) (asked k) a (w .broken .asks .formed) (w .broken .chosen) (w .broken .holds) t (w .filled) few-rows few-patterns few-literals steps room j
         (omega (arith, at .reach, literals-long k))
         (at .small)
 
     inside : j < k .literals → j < length (asked k .literals)
     inside h = omega (arith, literals-long k)
 
-    sayable : j < k .literals → Sayable c k t j (turnsOf (said c) (asked k) t j firsts seconds thirds .cells) (turnsOf (said c) (asked k) t j firsts seconds thirds .out .next)
+    long : length (out .steps) ≡ length steps
+    long = ap (λ (o : Out). length (o .steps)) (at .stands .written) ∙ far .long
+
+    numbers : length (out .news) ≡ numberRun
+    numbers = ap (λ (o : Out). length (o .news)) (at .stands .written) ∙ far .numbers
+
+    sayable : j < k .literals → Sayable c k t j cells (out .news) (out .next)
     sayable h =
-        record {
+        rw (at .stands .column, at .stands .written)
+        (record {
           fits = tabled-fits c k t a w;
           inside = h;
-          most = far-most (said c) (asked k) a (w .broken .asks .formed) (w .broken .chosen) (w .broken .holds) t (w .filled) few-rows few-patterns few-literals firsts seconds thirds room j (inside h) far;
-          kinded = far-kinded (said c) (asked k) a (w .broken .asks .formed) (w .broken .chosen) (w .broken .holds) t (w .filled) few-rows few-patterns few-literals firsts seconds thirds room j (inside h) far;
-          few = far-few (said c) (asked k) a (w .broken .asks .formed) (w .broken .chosen) (w .broken .holds) t (w .filled) few-rows few-patterns few-literals firsts seconds thirds room j (inside h) far;
-        }
+          sendable = far-sendable (said c) (asked k) a (w .broken .asks .formed) (w .broken .chosen) (w .broken .holds) t (w .filled) few-rows few-patterns few-literals steps room j (inside h) far;
+        })
 
-    long : (length firsts′ ≡ length firsts) × (length seconds′ ≡ length seconds) × (length thirds′ ≡ length thirds)
-    long = (
-      ap length (at .stands .out .first) ∙ far .long₁,
-      ap length (at .stands .out .second) ∙ far .long₂,
-      ap length (at .stands .out .third) ∙ far .long₃,
-    )
-
-    turn-sayable : j < k .literals → Sayable c k t j cells next
-    turn-sayable h = subst₂ (Sayable c k t j) (sym (at .stands .column)) (sym (at .stands .out .last)) (sayable h)
-
-  draw-shown : {steps n : ℕ} {firsts′ seconds′ thirds′ ends differences : List ℕ}
-      → Drew (said c) (asked k) t firsts seconds thirds steps firsts′ seconds′ thirds′ ends differences
-      → Shown firsts seconds thirds (record { outcome = Breach n; places = a; steps = steps; literals = length (asked k .literals); conclusions = endsWith ends differences }) firsts′ seconds′ thirds′ (said c) (asked k)
-  draw-shown {steps} {n} v =
-      rw (v .stands .out .last, v .stands .out .first, v .stands .out .second, v .stands .out .third, v .stands .steps, v .stands .stated)
-      (drawn-shown (said c) (asked k) a (w .broken .asks .formed) (w .broken .chosen) (w .broken .holds) t (w .filled) few-rows few-patterns few-literals firsts seconds thirds room
+  draw-shown : {many n : ℕ} {steps′ : List (List ℕ)} {ends differences : List ℕ} → Drew (said c) (asked k) t steps many steps′ ends differences
+      → Shown steps (record { outcome = Breach n; places = a; steps = many; literals = length (asked k .literals); conclusions = endsWith ends differences }) steps′ (said c) (asked k)
+  draw-shown {many} {n} v =
+      rw (ap (λ (o : Out). o .next) (v .stands .written), ap (λ (o : Out). o .steps) (v .stands .written), v .stands .steps, v .stands .stated)
+      (drawn-shown (said c) (asked k) a (w .broken .asks .formed) (w .broken .chosen) (w .broken .holds) t (w .filled) few-rows few-patterns few-literals steps room
       (v .small)
       (Breach n))
 
-  pub draw-drawable : Drawable c k t firsts seconds thirds
+  pub draw-drawable : Drawable c k t steps
   draw-drawable = record { places = a; tabled = w; room = room }
 
-  pub draw-done : {steps : ℕ} {firsts′ seconds′ thirds′ ends differences : List ℕ} {d : Conclusions} (n : ℕ)
-      → Drew (said c) (asked k) t firsts seconds thirds steps firsts′ seconds′ thirds′ ends differences
+  pub draw-done : {many : ℕ} {steps′ : List (List ℕ)} {ends differences : List ℕ} {d : Conclusions} (n : ℕ) → Drew (said c) (asked k) t steps many steps′ ends differences
       → d ≡ endsWith ends differences
-      → Draws c k n a firsts seconds thirds (record { outcome = Breach n; places = a; steps = steps; literals = k .literals; conclusions = d }) firsts′ seconds′ thirds′
-  draw-done {steps} {firsts′} {seconds′} {thirds′} n v e =
+      → Draws c k n a steps (record { outcome = Breach n; places = a; steps = many; literals = k .literals; conclusions = d }) steps′
+  draw-done {many} {steps′} n v e =
       record {
         outcome = refl;
         places = refl;
         shown =
-            subst₂ (λ (j : ℕ) (d : Conclusions). Shown firsts seconds thirds (record { outcome = Breach n; places = a; steps = steps; literals = j; conclusions = d }) firsts′ seconds′ thirds′ (said c) (asked k))
+            subst₂ (λ (j : ℕ) (d : Conclusions). Shown steps (record { outcome = Breach n; places = a; steps = many; literals = j; conclusions = d }) steps′ (said c) (asked k))
             (literals-long k)
             (sym e)
             (draw-shown v);
       }
 
-module _ (c : ContextColumns) (k : ClauseColumns) (t : Table) (firsts seconds thirds : List ℕ) (w : Drawable c k t firsts seconds thirds) where
+module _ (c : ContextColumns) (k : ClauseColumns) (t : Table) (steps : List (List ℕ)) (w : Drawable c k t steps) where
   pub drawable-fits : Fits c k t
   drawable-fits = tabled-fits c k t (w .places) (w .tabled)
 
-  module _ (j : ℕ) {cells news firsts′ seconds′ thirds′ ends differences : List ℕ} {next : ℕ}
-      (at : Turning c k t firsts seconds thirds j cells news next firsts′ seconds′ thirds′ ends differences) where
-    pub turning-sayable : j < k .literals → Sayable c k t j cells next
-    turning-sayable = turn-sayable c k (w .places) t (w .tabled) firsts seconds thirds (w .room) j at
+  module _ (j : ℕ) {cells news ends differences : List ℕ} {next : ℕ} {steps′ : List (List ℕ)} (at : Turning c k t steps j cells (outOf news next steps′) ends differences) where
+    pub turning-sayable : j < k .literals → Sayable c k t j cells news next
+    turning-sayable = sayable c k (w .places) t (w .tabled) steps (w .room) j at
 
-    -- the columns keep their lengths
-    pub turning-first : length firsts′ ≡ length firsts
-    turning-first = long c k (w .places) t (w .tabled) firsts seconds thirds (w .room) j at .0
+    -- the run, and the new numbers, keep their lengths
+    pub turning-long : length steps′ ≡ length steps
+    turning-long = long c k (w .places) t (w .tabled) steps (w .room) j at
 
-    pub turning-second : length seconds′ ≡ length seconds
-    turning-second = long c k (w .places) t (w .tabled) firsts seconds thirds (w .room) j at .1
+    pub turning-numbers : length news ≡ numberRun
+    turning-numbers = numbers c k (w .places) t (w .tabled) steps (w .room) j at
 
-    pub turning-third : length thirds′ ≡ length thirds
-    turning-third = long c k (w .places) t (w .tabled) firsts seconds thirds (w .room) j at .2
+pub news-long : (news start : List ℕ) → start ≡ replicate numberRun 0 → length news ≡ numberRun → length news ≡ length start
+news-long news start e f = f ∙ sym (ap length e ∙ length-replicate {A = ℕ} numberRun 0)
 
 pub ends-made : (ends differences : List ℕ)
     → _≡_ {A = Conclusions} (record { firsts = ends; differences = differences }) (endsWith ends differences)
@@ -267,18 +245,16 @@ pub ruleset mine = (
   turn-inside,
   turn-literals,
   turn-place,
-  turn-few,
-  turn-most,
-  turn-kinded,
+  turn-sendable,
   turn-turned,
   turning-start,
   turning-next,
   turning-done,
   turning-shares,
   turning-sayable,
-  turning-first,
-  turning-second,
-  turning-third,
+  turning-long,
+  turning-numbers,
+  news-long,
   drawable-fits,
   close-blank,
   draw-drawable,

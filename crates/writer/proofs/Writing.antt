@@ -10,6 +10,7 @@ use native.Mathlib.Omega.{arith}
 use borrow.Author.Needs.{needs}
 use borrow.Author.Tests.{ltb-true, ltb-false}
 use lib.Dec.{ltb}
+use lib.ListN.{length}
 use Rattle.meaning.specs.Context.{Context}
 use Rattle.meaning.specs.Rules.{rangeOf, Clause, Breach, Found, found, nothing}
 use Rattle.meaning.specs.Text.{narrow, Reading}
@@ -23,15 +24,16 @@ use Rattle.prepared.specs.declared.Answer.the-variants as A
 use Rattle.prepared.specs.declared.Prepared.{Prepared}
 use Rattle.prepared.proofs.Preparing.{Stands, ready-stands, ready-asks, refused-answers}
 use Rattle.finder.proofs.Ready.{ready-replies}
-use Rattle.writer.specs.Claims.{most, space, refuses, lacks, replies, Shown, Leaves, Writes}
+use Rattle.grounds_steps.specs.Steps.{mostSteps}
+use Rattle.writer.specs.Claims.{refuses, lacks, replies, Shown, Leaves, Writes}
 use Rattle.writer.specs.Drawing.{bareWith, refusedWith, Seekable, LeavesFor, Sought}
 use Rattle.writer.specs.declared.Grounds.{Grounds}
 
-pub write-room : (firsts seconds thirds : List ℕ) (b : Bool) → b ≡ false → b ≡ ltb (space firsts seconds thirds) most → most ≤ space firsts seconds thirds
-write-room firsts seconds thirds b h e = ltb-false (space firsts seconds thirds) most (sym e ∙ h)
+pub write-room : (steps : List (List ℕ)) (b : Bool) → b ≡ false → b ≡ ltb (length steps) mostSteps → mostSteps ≤ length steps
+write-room steps b h e = ltb-false (length steps) mostSteps (sym e ∙ h)
 
-module _ (text : List ℕ) (p : Prepared) (prepares : Prepares text p) (firsts seconds thirds : List ℕ) where
-  pub write-refused : (x : Refusal) → p .answer ≡ A.Refused x → (y : Grounds) → y ≡ refusedWith x → Writes text firsts seconds thirds y firsts seconds thirds
+module _ (text : List ℕ) (p : Prepared) (prepares : Prepares text p) (steps : List (List ℕ)) where
+  pub write-refused : (x : Refusal) → p .answer ≡ A.Refused x → (y : Grounds) → y ≡ refusedWith x → Writes text steps y steps
   unfolding refusedWith bareWith placesOf
   write-refused x e y q =
       rw q
@@ -40,7 +42,7 @@ module _ (text : List ℕ) (p : Prepared) (prepares : Prepares text p) (firsts s
         answers = refuses (meant x) (refused-answers text p prepares x e);
         told = refl;
         places = refl;
-        leaves = record { steps = refl; literals = refl; conclusions = refl; first = refl; second = refl; third = refl };
+        leaves = record { count = refl; literals = refl; conclusions = refl; words = refl };
       }
 
   module _ (ready : p .answer ≡ A.Ready) where
@@ -53,17 +55,17 @@ module _ (text : List ℕ) (p : Prepared) (prepares : Prepares text p) (firsts s
     stands : Stands text p
     stands = ready-stands text p prepares ready
 
-    pub write-cramped : (b : Bool) → b ≡ ltb (space firsts seconds thirds) most → b ≡ true
-        → (y : Grounds) → y ≡ refusedWith (record { number = 10; line = 0; offset = 0 }) → Writes text firsts seconds thirds y firsts seconds thirds
+    pub write-cramped : (b : Bool) → b ≡ ltb (length steps) mostSteps → b ≡ true
+        → (y : Grounds) → y ≡ refusedWith (record { number = 10; line = 0; offset = 0 }) → Writes text steps y steps
     unfolding refusedWith bareWith placesOf
     write-cramped b e h y q =
         rw q
         record {
           reply = refused (refusal 10 0);
-          answers = lacks (foundBy c (p .table) k) (ready-replies text p prepares ready) (ltb-true (space firsts seconds thirds) most (sym e ∙ h));
+          answers = lacks (foundBy c (p .table) k) (ready-replies text p prepares ready) (ltb-true (length steps) mostSteps (sym e ∙ h));
           told = refl;
           places = refl;
-          leaves = record { steps = refl; literals = refl; conclusions = refl; first = refl; second = refl; third = refl };
+          leaves = record { count = refl; literals = refl; conclusions = refl; words = refl };
         }
 
     judged-breach : (d : Context) (l : Clause) (a : List ℕ) (u : M.Reply) → u ≡ breach a → Judged d l u → Breach d (rangeOf d) l a
@@ -83,24 +85,24 @@ module _ (text : List ℕ) (p : Prepared) (prepares : Prepares text p) (firsts s
     pub write-seekable : Seekable (p .context) (p .table) (p .clause)
     write-seekable = record { asks = ready-asks text p prepares ready; closed = prepares .closed; breach = breach-said }
 
-    pub write-sought : (b : Bool) → b ≡ ltb (space firsts seconds thirds) most → b ≡ false → {y : Grounds} {firsts′ seconds′ thirds′ : List ℕ}
-        → Sought (p .context) (p .table) (p .clause) firsts seconds thirds y firsts′ seconds′ thirds′
-        → Writes text firsts seconds thirds y firsts′ seconds′ thirds′
-    write-sought b e h {y} {firsts′} {seconds′} {thirds′} w =
+    pub write-sought : (b : Bool) → b ≡ ltb (length steps) mostSteps → b ≡ false → {y : Grounds} {steps′ : List (List ℕ)}
+        → Sought (p .context) (p .table) (p .clause) steps y steps′
+        → Writes text steps y steps′
+    write-sought b e h {y} {steps′} w =
         record {
           reply = replyOf (w .what);
-          answers = replies (w .what) (replied (w .what) (w .finds)) (write-room firsts seconds thirds b h e);
+          answers = replies (w .what) (replied (w .what) (w .finds)) (write-room steps b h e);
           told = w .told;
           places = w .places;
           leaves = leaves (w .what) (w .leaves);
         }
       where
-        leaves : (q : Found) → LeavesFor firsts seconds thirds y firsts′ seconds′ thirds′ c k q → Leaves firsts seconds thirds y firsts′ seconds′ thirds′ text (replyOf q)
+        leaves : (q : Found) → LeavesFor steps y steps′ c k q → Leaves steps y steps′ text (replyOf q)
         leaves (found a) l =
             record {
               said = stands .what;
               reads = stands .whole;
-              shown = subst₂ (λ (g : Context) (n : Clause). Shown firsts seconds thirds y firsts′ seconds′ thirds′ g n) (stands .context) (stands .clause) l;
+              shown = subst₂ (λ (g : Context) (n : Clause). Shown steps y steps′ g n) (stands .context) (stands .clause) l;
             }
         leaves nothing l = l
 

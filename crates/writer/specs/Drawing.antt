@@ -13,7 +13,7 @@
 --     Sayable, Turned               what a literal's turn asks, and what it leaves
 --     Drawable, Drew                what the turns of all literals ask, and what they leave
 --     endsWith                      a conclusion for each literal
---     Draws                         the answer for a breach, and the columns afterwards
+--     Draws                         the answer for a breach, and the run afterwards
 --     outcomeBy                     what is told for the search's answer; for a failure refusal 0, which is no text's
 --     Seekable, Sought              what the search asks, and the answer for what was found
 -- Assumes nothing.
@@ -50,9 +50,10 @@ use Rattle.grounding.specs.Classes.{State}
 use Rattle.grounding.specs.Rounds.{started, stated, rounds}
 use Rattle.grounding.specs.Concluding.{Said, said as sayOf, resumed}
 use Rattle.batches.specs.Drawing.{Drawn, blankDrawn, drawOne, drawnTo}
-use Rattle.batches.specs.Sending.{Small}
-use Rattle.emitting.specs.Emitting.{Kinded, Holds}
-use Rattle.writer.specs.Claims.{most, space, noConclusions, Bare, Shown}
+use Rattle.batches.specs.Sending.{Out, outOf, Small}
+use Rattle.emitting.specs.Emitting.{Sendable}
+use Rattle.grounds_steps.specs.Steps.{mostSteps}
+use Rattle.writer.specs.Claims.{noConclusions, Bare, Shown}
 use Rattle.writer.specs.declared.Grounds.{Grounds}
 
 unfoldable pub bareWith : Outcome → List ℕ → Grounds
@@ -106,11 +107,11 @@ module _ (c : Context) (k : Clause) (t : Table) where
   unfoldable pub turnOf : ℕ → Drawn → Drawn
   turnOf = drawOne (sizeOf c k) keys (t .numbers) (length (c .rows)) diffs settledOf (k .literals)
 
-  -- the first j literals, in columns of words
-  unfoldable pub turnsOf : ℕ → List ℕ → List ℕ → List ℕ → Drawn
-  turnsOf j firsts seconds thirds =
+  -- the first j literals, in a run of words
+  unfoldable pub turnsOf : ℕ → List (List ℕ) → Drawn
+  turnsOf j steps =
       drawnTo (sizeOf c k) keys (t .numbers) (length (c .rows)) diffs settledOf (k .literals) j
-      (blankDrawn (settledOf .cells) firsts seconds thirds)
+      (blankDrawn (settledOf .cells) steps)
 
   -- the closed classes, and how many steps they have
   pub record Shares (classes : List ℕ) (from : ℕ) : Type 0 where
@@ -118,46 +119,44 @@ module _ (c : Context) (k : Clause) (t : Table) where
     pub many : from ≡ countIn (settledOf .cells)
 
 -- a column, new numbers, words and conclusions are those
-pub record Stands (cells news : List ℕ) (next : ℕ) (firsts seconds thirds ends differences : List ℕ) (d : Drawn) : Type 0 where
+pub record Stands (cells : List ℕ) (out : Out) (ends differences : List ℕ) (d : Drawn) : Type 0 where
   pub column : cells ≡ d .cells
-  pub out : Holds news next firsts seconds thirds (d .out)
+  pub written : out ≡ d .out
   pub steps : ends ≡ d .ends
   pub stated : differences ≡ d .differences
 
 -- the literal's steps fit their column, and there is a number for each step written after them
-pub record Sayable (c : ContextColumns) (k : ClauseColumns) (t : Table) (j : ℕ) (cells : List ℕ) (next : ℕ) : Type 0 where
+pub record Sayable (c : ContextColumns) (k : ClauseColumns) (t : Table) (j : ℕ) (cells news : List ℕ) (next : ℕ) : Type 0 where
   pub fits : Fits c k t
   pub inside : j < k .literals
-  pub most : countIn (saidOf (said c) (asked k) t j cells .cells) ≤ 16384
-  pub kinded : Kinded (saidOf (said c) (asked k) t j cells .cells)
-  pub few : next ≤ 262144
+  pub sendable : Sendable (saidOf (said c) (asked k) t j cells .cells) news next
 
 -- literal j, and the numbers of its column are of 16 bits
-pub record Turned (c : Context) (k : Clause) (t : Table) (j : ℕ) (d : Drawn) (cells news : List ℕ) (next : ℕ) (firsts seconds thirds ends differences : List ℕ) : Type 0 where
-  pub stands : Stands cells news next firsts seconds thirds ends differences (turnOf c k t j d)
+pub record Turned (c : Context) (k : Clause) (t : Table) (j : ℕ) (d : Drawn) (cells : List ℕ) (out : Out) (ends differences : List ℕ) : Type 0 where
+  pub stands : Stands cells out ends differences (turnOf c k t j d)
   pub small : Small (saidOf c k t j (d .cells) .cells)
 
 -- a table of all entries for a breach, and room for the steps
-pub record Drawable (c : ContextColumns) (k : ClauseColumns) (t : Table) (firsts seconds thirds : List ℕ) : Type 0 where
+pub record Drawable (c : ContextColumns) (k : ClauseColumns) (t : Table) (steps : List (List ℕ)) : Type 0 where
   pub places : List ℕ
   pub tabled : Tabled c k places t
-  pub room : most ≤ space firsts seconds thirds
+  pub room : mostSteps ≤ length steps
 
--- all literals, in columns of words, and the numbers of each one's column are of 16 bits
-pub record Drew (c : Context) (k : Clause) (t : Table) (firsts seconds thirds : List ℕ) (next : ℕ) (firsts′ seconds′ thirds′ ends differences : List ℕ) : Type 0 where
+-- all literals, in a run of words, and the numbers of each one's column are of 16 bits
+pub record Drew (c : Context) (k : Clause) (t : Table) (steps : List (List ℕ)) (next : ℕ) (steps′ : List (List ℕ)) (ends differences : List ℕ) : Type 0 where
   pub cells : List ℕ
   pub news : List ℕ
-  pub stands : Stands cells news next firsts′ seconds′ thirds′ ends differences (turnsOf c k t (length (k .literals)) firsts seconds thirds)
-  pub small : (j : ℕ) → j < length (k .literals) → Small (saidOf c k t j (turnsOf c k t j firsts seconds thirds .cells) .cells)
+  pub stands : Stands cells (outOf news next steps′) ends differences (turnsOf c k t (length (k .literals)) steps)
+  pub small : (j : ℕ) → j < length (k .literals) → Small (saidOf c k t j (turnsOf c k t j steps .cells) .cells)
 
 -- a step and a stated difference in each place
 unfoldable pub endsWith : List ℕ → List ℕ → Conclusions
 endsWith ends differences = record { firsts = ends; differences = differences }
 
-pub record Draws (c : ContextColumns) (k : ClauseColumns) (n : ℕ) (a firsts seconds thirds : List ℕ) (r : Grounds) (firsts′ seconds′ thirds′ : List ℕ) : Type 0 where
+pub record Draws (c : ContextColumns) (k : ClauseColumns) (n : ℕ) (a : List ℕ) (steps : List (List ℕ)) (r : Grounds) (steps′ : List (List ℕ)) : Type 0 where
   pub outcome : r .outcome ≡ O.Breach n
   pub places : r .places ≡ a
-  pub shown : Shown firsts seconds thirds r firsts′ seconds′ thirds′ (said c) (asked k)
+  pub shown : Shown steps r steps′ (said c) (asked k)
 
 -- ---- the search
 
@@ -172,15 +171,15 @@ pub record Seekable (c : ContextColumns) (table : List ℕ) (k : ClauseColumns) 
   pub closed : Promise (said c) 255 table
   pub breach : (a : List ℕ) → foundBy (said c) table (asked k) ≡ found a → Breach (said c) (rangeOf (said c)) (asked k) a
 
--- the answer for what was found, and the columns afterwards
-module _ (firsts seconds thirds : List ℕ) (r : Grounds) (firsts′ seconds′ thirds′ : List ℕ) where
+-- the answer for what was found, and the run afterwards
+module _ (steps : List (List ℕ)) (r : Grounds) (steps′ : List (List ℕ)) where
   abbrev pub LeavesFor : Context → Clause → Found → Type 0
-  LeavesFor c k (found a) = Shown firsts seconds thirds r firsts′ seconds′ thirds′ c k
-  LeavesFor c k nothing = Bare firsts seconds thirds r firsts′ seconds′ thirds′
+  LeavesFor c k (found a) = Shown steps r steps′ c k
+  LeavesFor c k nothing = Bare steps r steps′
 
-pub record Sought (c : ContextColumns) (table : List ℕ) (k : ClauseColumns) (firsts seconds thirds : List ℕ) (r : Grounds) (firsts′ seconds′ thirds′ : List ℕ) : Type 0 where
+pub record Sought (c : ContextColumns) (table : List ℕ) (k : ClauseColumns) (steps : List (List ℕ)) (r : Grounds) (steps′ : List (List ℕ)) : Type 0 where
   pub what : Found
   pub finds : foundBy (said c) table (asked k) ≡ what
   pub told : toldBy (r .outcome) ≡ toldOf (replyOf what)
   pub places : r .places ≡ placesOf (replyOf what)
-  pub leaves : LeavesFor firsts seconds thirds r firsts′ seconds′ thirds′ (said c) (asked k) what
+  pub leaves : LeavesFor steps r steps′ (said c) (asked k) what

@@ -1,12 +1,16 @@
 // The writer of grounds: the finder's reply, and for a breach the steps and conclusions that show it.
+use casts::usize_of_u16;
 use concluding::Shown;
 use concluding::say;
 use emitting::batch;
 use emitting::words::new_of;
 use finder::hunt;
+use grounding::DRAFT_RUN;
+use grounding::NUMBER_RUN;
+use grounds_steps::STEPS;
+use grounds_steps::WORDS;
 use ledger::ClauseColumns;
 use ledger::ContextColumns;
-use numbering::numbers::wide;
 use numbering::pairs::Pairs;
 use numbering::pairs::stated;
 use numbering::table::Table;
@@ -15,25 +19,27 @@ use prepared::Answer;
 use prepared::prepare;
 use replies::Outcome;
 use replies::Refusal;
+use runs::limits::LITERALS;
 use search::Kind;
 use settling::settle;
 use verifier::Conclusions;
 ghost use mathlib.Core.Path.{_≡_};
-ghost use Prim.Native.Nat.{_≤_, _<_, min};
+ghost use Prim.Native.Nat.{_≤_, _<_};
 ghost use lib.Dec.{ltb};
-ghost use lib.ListN.{replicate};
+ghost use lib.ListN.{length, replicate};
 ghost use Rattle.prepared.specs.Claims.{said, asked};
 ghost use Rattle.meaning.specs.Columns.{literalOf};
 ghost use Rattle.meaning.specs.Grounds.{literalAt};
+ghost use Rattle.runs.specs.Limits.{mostLiterals};
+ghost use Rattle.grounds_steps.specs.Steps.{mostSteps};
+ghost use Rattle.grounding.specs.Limits.{numberRun};
 ghost use Rattle.grounding.specs.Classes.{Left};
 ghost use Rattle.grounding.specs.Rounds.{blank};
 ghost use Rattle.grounding.specs.Concluding.{ownerOf};
 ghost use Rattle.concluding.specs.Saying.{Says};
-ghost use Rattle.writer.specs.Claims.{most, space, noConclusions, Writes};
+ghost use Rattle.batches.specs.Sending.{outOf};
+ghost use Rattle.writer.specs.Claims.{noConclusions, Writes};
 ghost use Rattle.writer.specs.Drawing.{bareWith, refusedWith, Broken, Tabled, Fits, Apart, settledOf, saidFor, saidOf, Shares, Sayable, Turned, Drawable, Drew, endsWith, Draws, outcomeBy, Seekable, Sought};
-
-// There has to be room for so many steps.
-const MOST: usize = 278528;
 
 // The finder's reply, or refusal 10; how many steps were written, and a conclusion for each literal.
 pub struct Grounds {
@@ -49,8 +55,8 @@ pub fn no_conclusions() -> Conclusions
     ensures { λ r. ⌜ r ≡ noConclusions ⌝ }
 {
     Conclusions {
-        firsts: [0; 16],
-        differences: [0; 16],
+        firsts: [0; LITERALS],
+        differences: [0; LITERALS],
     }
 }
 
@@ -75,17 +81,11 @@ fn refused(x: Refusal) -> Grounds
     bare(outcome, [255; 4])
 }
 
-fn least(x: usize, y: usize) -> usize
-    ensures { λ r. ⌜ r ≡ min x y ⌝ }
-{
-    if x < y { x } else { y }
-}
-
 // Whether there is room for too few steps.
-fn cramped<'a>(firsts: &'a [u64], seconds: &'a [u64], thirds: &'a [u64]) -> bool
-    ensures { λ r. ⌜ r ≡ ltb (space (now (firsts .entry)) (now (seconds .entry)) (now (thirds .entry))) most ⌝ }
+fn cramped(steps: &[[u64; WORDS]]) -> bool
+    ensures { λ r. ⌜ r ≡ ltb (length (now (steps .entry))) mostSteps ⌝ }
 {
-    least(firsts.len(), least(seconds.len(), thirds.len())) < MOST
+    steps.len() < STEPS
 }
 
 // The table of all entries.
@@ -111,7 +111,7 @@ fn lay(c: ContextColumns, k: ClauseColumns, places: [u16; 4]) -> Table
 
 // Closed classes, by the stated equations.
 fn close_all(
-    cells: &mut [u16; 114689],
+    cells: &mut [u16; DRAFT_RUN],
     classes: &mut [u16; 638],
     c: ContextColumns,
     k: ClauseColumns,
@@ -149,7 +149,7 @@ fn apart(c: ContextColumns, k: ClauseColumns, t: Table) -> Pairs
 
 // What shows a literal by itself, by closed classes and the stated differences.
 fn say_for(
-    cells: &mut [u16; 114689],
+    cells: &mut [u16; DRAFT_RUN],
     classes: &[u16; 638],
     from: u16,
     c: ContextColumns,
@@ -188,7 +188,7 @@ fn say_for(
 
 // For literal j, counted from 0.
 fn say_one(
-    cells: &mut [u16; 114689],
+    cells: &mut [u16; DRAFT_RUN],
     classes: &[u16; 638],
     from: u16,
     c: ContextColumns,
@@ -211,50 +211,37 @@ fn say_one(
 // Whose steps literal j's own are, counted from 0: an unequal literal's number, and 0 for an equal one.
 fn owner_of(k: ClauseColumns, j: usize) -> u8
     requires { ⌜ j < k .literals ⌝ }
-    requires { ⌜ k .literals ≤ 16 ⌝ }
-    ensures { λ r. ⌜ (r ≡ ownerOf j (literalAt (asked k .literals) j)) × (r ≤ 16) ⌝ }
+    requires { ⌜ k .literals ≤ mostLiterals ⌝ }
+    ensures { λ r. ⌜ (r ≡ ownerOf j (literalAt (asked k .literals) j)) × (r ≤ mostLiterals) ⌝ }
 {
     if k.signs[j] == 6 { 0 } else { (j + 1) as u8 }
 }
 
 // The turn of literal j, counted from 0: what its conclusion rests on, behind the steps that were written before, and its conclusion. How many are written.
 fn draw_one(
-    cells: &mut [u16; 114689],
+    cells: &mut [u16; DRAFT_RUN],
     classes: &[u16; 638],
     from: u16,
-    news: &mut [u32; 16385],
-    ends: &mut [u32; 16],
-    differences: &mut [u16; 16],
-    firsts: &mut [u64],
-    seconds: &mut [u64],
-    thirds: &mut [u64],
+    news: &mut [u32],
+    ends: &mut [u32; LITERALS],
+    differences: &mut [u16; LITERALS],
+    steps: &mut [[u64; WORDS]],
     c: ContextColumns,
     k: ClauseColumns,
     t: Table,
     j: usize,
     next: usize,
 ) -> usize
-    requires { ⌜ Sayable c k t j (now cells) next ⌝ }
+    requires { ⌜ Sayable c k t j (now cells) (now news) next ⌝ }
     requires { ⌜ Shares (said c) (asked k) t (now classes) from ⌝ }
-    ensures { λ r. ⌜ Turned (said c) (asked k) t j (record { cells = now (cells .entry); out = record { news = now (news .entry); next = next; firsts = now (firsts .entry); seconds = now (seconds .entry); thirds = now (thirds .entry) }; ends = now (ends .entry); differences = now (differences .entry) }) (now (cells .exit)) (now (news .exit)) r (now (firsts .exit)) (now (seconds .exit)) (now (thirds .exit)) (now (ends .exit)) (now (differences .exit)) ⌝ }
+    ensures { λ r. ⌜ Turned (said c) (asked k) t j (record { cells = now (cells .entry); out = outOf (now (news .entry)) next (now (steps .entry)); ends = now (ends .entry); differences = now (differences .entry) }) (now (cells .exit)) (outOf (now (news .exit)) r (now (steps .exit))) (now (ends .exit)) (now (differences .exit)) ⌝ }
 {
     let s = say_one(cells, classes, from, c, k, t, j);
     let first = s.first;
     let owner = owner_of(k, j);
     let rows = c.rows;
-    let shared = wide(from);
-    let last = batch(
-        firsts,
-        seconds,
-        thirds,
-        news,
-        cells,
-        rows,
-        shared,
-        owner,
-        first,
-        next,
-    );
+    let shared = usize_of_u16(from);
+    let last = batch(steps, news, cells, rows, shared, owner, first, next);
     ends[j] = new_of(news, first);
     differences[j] = s.difference;
     last
@@ -262,24 +249,22 @@ fn draw_one(
 
 // One literal after the other. How many steps are written.
 fn draw_each(
-    cells: &mut [u16; 114689],
+    cells: &mut [u16; DRAFT_RUN],
     classes: &[u16; 638],
-    news: &mut [u32; 16385],
-    ends: &mut [u32; 16],
-    differences: &mut [u16; 16],
-    firsts: &mut [u64],
-    seconds: &mut [u64],
-    thirds: &mut [u64],
+    news: &mut [u32],
+    ends: &mut [u32; LITERALS],
+    differences: &mut [u16; LITERALS],
+    steps: &mut [[u64; WORDS]],
     c: ContextColumns,
     k: ClauseColumns,
     t: Table,
 ) -> usize
-    requires { ⌜ Drawable c k t (now firsts) (now seconds) (now thirds) ⌝ }
+    requires { ⌜ Drawable c k t (now steps) ⌝ }
     requires { ⌜ Left (now cells) (now classes) (settledOf (said c) (asked k) t) ⌝ }
-    requires { ⌜ now news ≡ replicate 16385 0 ⌝ }
-    requires { ⌜ now ends ≡ replicate 16 0 ⌝ }
-    requires { ⌜ now differences ≡ replicate 16 0 ⌝ }
-    ensures { λ r. ⌜ Drew (said c) (asked k) t (now (firsts .entry)) (now (seconds .entry)) (now (thirds .entry)) r (now (firsts .exit)) (now (seconds .exit)) (now (thirds .exit)) (now (ends .exit)) (now (differences .exit)) ⌝ }
+    requires { ⌜ now news ≡ replicate numberRun 0 ⌝ }
+    requires { ⌜ now ends ≡ replicate mostLiterals 0 ⌝ }
+    requires { ⌜ now differences ≡ replicate mostLiterals 0 ⌝ }
+    ensures { λ r. ⌜ Drew (said c) (asked k) t (now (steps .entry)) r (now (steps .exit)) (now (ends .exit)) (now (differences .exit)) ⌝ }
 {
     let from = cells[0];
     let literals = k.literals;
@@ -293,9 +278,7 @@ fn draw_each(
             news,
             ends,
             differences,
-            firsts,
-            seconds,
-            thirds,
+            steps,
             c,
             k,
             t,
@@ -309,33 +292,29 @@ fn draw_each(
 
 // All steps, and for each literal a step and a stated difference. How many steps are written.
 fn draw_all(
-    ends: &mut [u32; 16],
-    differences: &mut [u16; 16],
-    firsts: &mut [u64],
-    seconds: &mut [u64],
-    thirds: &mut [u64],
+    ends: &mut [u32; LITERALS],
+    differences: &mut [u16; LITERALS],
+    steps: &mut [[u64; WORDS]],
     c: ContextColumns,
     k: ClauseColumns,
     t: Table,
 ) -> usize
-    requires { ⌜ Drawable c k t (now firsts) (now seconds) (now thirds) ⌝ }
-    requires { ⌜ now ends ≡ replicate 16 0 ⌝ }
-    requires { ⌜ now differences ≡ replicate 16 0 ⌝ }
-    ensures { λ r. ⌜ Drew (said c) (asked k) t (now (firsts .entry)) (now (seconds .entry)) (now (thirds .entry)) r (now (firsts .exit)) (now (seconds .exit)) (now (thirds .exit)) (now (ends .exit)) (now (differences .exit)) ⌝ }
+    requires { ⌜ Drawable c k t (now steps) ⌝ }
+    requires { ⌜ now ends ≡ replicate mostLiterals 0 ⌝ }
+    requires { ⌜ now differences ≡ replicate mostLiterals 0 ⌝ }
+    ensures { λ r. ⌜ Drew (said c) (asked k) t (now (steps .entry)) r (now (steps .exit)) (now (ends .exit)) (now (differences .exit)) ⌝ }
 {
-    let mut cells: [u16; 114689] = [0; 114689];
+    let mut cells: [u16; DRAFT_RUN] = [0; DRAFT_RUN];
     let mut classes: [u16; 638] = [0; 638];
     close_all(&mut cells, &mut classes, c, k, t);
-    let mut news: [u32; 16385] = [0; 16385];
+    let mut news: [u32; NUMBER_RUN] = [0; NUMBER_RUN];
     draw_each(
         &mut cells,
         &classes,
         &mut news,
         ends,
         differences,
-        firsts,
-        seconds,
-        thirds,
+        steps,
         c,
         k,
         t,
@@ -343,7 +322,7 @@ fn draw_all(
 }
 
 // A conclusion for each literal: a step and a stated difference.
-fn ends_with(ends: [u32; 16], differences: [u16; 16]) -> Conclusions
+fn ends_with(ends: [u32; LITERALS], differences: [u16; LITERALS]) -> Conclusions
     ensures { λ r. ⌜ r ≡ endsWith ends differences ⌝ }
 {
     Conclusions {
@@ -358,34 +337,23 @@ fn draw(
     k: ClauseColumns,
     n: u8,
     places: [u16; 4],
-    firsts: &mut [u64],
-    seconds: &mut [u64],
-    thirds: &mut [u64],
+    steps: &mut [[u64; WORDS]],
 ) -> Grounds
     requires { ⌜ Broken c k places ⌝ }
-    requires { ⌜ most ≤ space (now firsts) (now seconds) (now thirds) ⌝ }
-    ensures { λ r. ⌜ Draws c k n places (now (firsts .entry)) (now (seconds .entry)) (now (thirds .entry)) r (now (firsts .exit)) (now (seconds .exit)) (now (thirds .exit)) ⌝ }
+    requires { ⌜ mostSteps ≤ length (now steps) ⌝ }
+    ensures { λ r. ⌜ Draws c k n places (now (steps .entry)) r (now (steps .exit)) ⌝ }
 {
     let t = lay(c, k, places);
-    let mut ends: [u32; 16] = [0; 16];
-    let mut differences: [u16; 16] = [0; 16];
-    let steps = draw_all(
-        &mut ends,
-        &mut differences,
-        firsts,
-        seconds,
-        thirds,
-        c,
-        k,
-        t,
-    );
+    let mut ends: [u32; LITERALS] = [0; LITERALS];
+    let mut differences: [u16; LITERALS] = [0; LITERALS];
+    let many = draw_all(&mut ends, &mut differences, steps, c, k, t);
     let literals = k.literals;
     let conclusions = ends_with(ends, differences);
     let outcome = Outcome::Breach(n);
     Grounds {
         outcome,
         places,
-        steps,
+        steps: many,
         literals,
         conclusions,
     }
@@ -414,35 +382,33 @@ fn seek(
     c: ContextColumns,
     table: [u16; 255],
     k: ClauseColumns,
-    firsts: &mut [u64],
-    seconds: &mut [u64],
-    thirds: &mut [u64],
+    steps: &mut [[u64; WORDS]],
 ) -> Grounds
     requires { ⌜ Seekable c table k ⌝ }
-    requires { ⌜ most ≤ space (now firsts) (now seconds) (now thirds) ⌝ }
-    ensures { λ r. ⌜ Sought c table k (now (firsts .entry)) (now (seconds .entry)) (now (thirds .entry)) r (now (firsts .exit)) (now (seconds .exit)) (now (thirds .exit)) ⌝ }
+    requires { ⌜ mostSteps ≤ length (now steps) ⌝ }
+    ensures { λ r. ⌜ Sought c table k (now (steps .entry)) r (now (steps .exit)) ⌝ }
 {
     let r = hunt(c, table, k);
     let kind = r.kind;
     let places = r.places;
     let outcome = outcome_of(kind);
     match kind {
-        Kind::Breach(n) => draw(c, k, n, places, firsts, seconds, thirds),
+        Kind::Breach(n) => draw(c, k, n, places, steps),
         Kind::Clear => bare(outcome, places),
         Kind::Unfit => bare(outcome, places),
     }
 }
 
-// The finder's reply to a text, or refusal 10 where there is room for too few steps; after a breach, its grounds in the first places of the columns.
-pub fn write(text: &[u8], firsts: &mut [u64], seconds: &mut [u64], thirds: &mut [u64]) -> Grounds
-    ensures writes { λ r. ⌜ Writes (now (text .entry)) (now (firsts .entry)) (now (seconds .entry)) (now (thirds .entry)) r (now (firsts .exit)) (now (seconds .exit)) (now (thirds .exit)) ⌝ }
+// The finder's reply to a text, or refusal 10 where there is room for too few steps; after a breach, its grounds in the first places of the run.
+pub fn write(text: &[u8], steps: &mut [[u64; WORDS]]) -> Grounds
+    ensures writes { λ r. ⌜ Writes (now (text .entry)) (now (steps .entry)) r (now (steps .exit)) ⌝ }
 {
     let p = prepare(text);
     let answer = p.answer;
     if let Answer::Refused(x) = answer {
         return refused(x);
     }
-    if cramped(firsts, seconds, thirds) {
+    if cramped(steps) {
         let x = Refusal {
             number: 10,
             line: 0,
@@ -453,5 +419,5 @@ pub fn write(text: &[u8], firsts: &mut [u64], seconds: &mut [u64], thirds: &mut 
     let context = p.context;
     let clause = p.clause;
     let table = p.table;
-    seek(context, table, clause, firsts, seconds, thirds)
+    seek(context, table, clause, steps)
 }

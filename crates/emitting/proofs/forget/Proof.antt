@@ -6,10 +6,13 @@ use Rattle.emitting.proofs.forget.Statement.{statement}
 use Rattle.emitting.proofs.forget.Tie as tie
 
 abbrev Inv-loop : tie.InvT-loop
-Inv-loop news₀ from i₀ news i = Clearing from news₀ news i
+Inv-loop news₀ from n i₀ news i = Clearing from news₀ n news i
 
 abbrev μ-loop : tie.MeasureT-loop
-μ-loop news₀ from i₀ news i = 16384 - i
+μ-loop news₀ from n i₀ news i = n - i
+
+sub-n : tie.Need-sub-n Inv-loop μ-loop
+sub-n c = search mine
 
 loop-holds : tie.Need-loop-holds Inv-loop μ-loop
 loop-holds c = search mine
@@ -20,8 +23,8 @@ add-news c = search mine
 mul-news : tie.Need-mul-news Inv-loop μ-loop
 mul-news c = search mine
 
-element-write-news : tie.Need-element-write-news Inv-loop μ-loop
-element-write-news c = search mine
+slice-write-news : tie.Need-slice-write-news Inv-loop μ-loop
+slice-write-news c = search mine
 
 add-i : tie.Need-add-i Inv-loop μ-loop
 add-i c = search mine
@@ -32,6 +35,9 @@ loop-less c = search mine
 loop-again : tie.Need-loop-again Inv-loop μ-loop
 loop-again c = search mine
 
+same-length : tie.Need-same-length Inv-loop μ-loop
+same-length c = search mine
+
 returns : tie.Need-returns Inv-loop μ-loop
 returns c = search mine
 
@@ -41,11 +47,13 @@ forget-spec =
     (tie.spec
     Inv-loop
     μ-loop
+    sub-n
     loop-holds
     add-news
     mul-news
-    element-write-news
+    slice-write-news
     add-i
     loop-less
     loop-again
+    same-length
     returns)

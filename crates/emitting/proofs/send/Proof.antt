@@ -1,28 +1,29 @@
 -- `emitting::send` meets its contract. The invariant: the first i steps are sent. The measure is what is left of them.
 -- Assumes nothing.
 use Prim.Native.Nat.{_-_}
+use Rattle.batches.specs.Sending.{outOf}
 use Rattle.emitting.proofs.Emitting.{Through, mine}
 use Rattle.emitting.proofs.send.Statement.{statement}
 use Rattle.emitting.proofs.send.Tie as tie
 
 abbrev Inv-loop : tie.InvT-loop
-Inv-loop firsts₀ seconds₀ thirds₀ news₀ cells marks rows from owner next n last₀ i₀ firsts seconds thirds news last i =
-    Through rows from owner cells marks n (record { news = news₀; next = next; firsts = firsts₀; seconds = seconds₀; thirds = thirds₀ }) news last firsts seconds thirds i
+Inv-loop steps₀ news₀ cells marks rows from owner next n last₀ i₀ steps news last i =
+    Through rows from owner cells marks n (outOf news₀ next steps₀) (outOf news last steps) i
 
 abbrev μ-loop : tie.MeasureT-loop
-μ-loop firsts₀ seconds₀ thirds₀ news₀ cells marks rows from owner next n last₀ i₀ firsts seconds thirds news last i = n - i
+μ-loop steps₀ news₀ cells marks rows from owner next n last₀ i₀ steps news last i = n - i
 
-element-copy-out-wide : tie.Need-element-copy-out-wide Inv-loop μ-loop
-element-copy-out-wide c = search mine
+shared-slice-read-usize-of-u16 : tie.Need-shared-slice-read-usize-of-u16 Inv-loop μ-loop
+shared-slice-read-usize-of-u16 c = search mine
 
-wide-requires : tie.Need-wide-requires Inv-loop μ-loop
-wide-requires c κs = search mine
+usize-of-u16-requires : tie.Need-usize-of-u16-requires Inv-loop μ-loop
+usize-of-u16-requires c κs = search mine
 
 loop-holds : tie.Need-loop-holds Inv-loop μ-loop
 loop-holds c = search mine
 
 send-one-requires : tie.Need-send-one-requires Inv-loop μ-loop
-send-one-requires c κs = (search mine, (search mine, (search mine, search mine)))
+send-one-requires c κs = (search mine, (search mine, search mine))
 
 add-i : tie.Need-add-i Inv-loop μ-loop
 add-i c = search mine
@@ -39,9 +40,6 @@ same-length c = search mine
 same-length-2 : tie.Need-same-length-2 Inv-loop μ-loop
 same-length-2 c = search mine
 
-same-length-3 : tie.Need-same-length-3 Inv-loop μ-loop
-same-length-3 c = search mine
-
 returns : tie.Need-returns Inv-loop μ-loop
 returns c = search mine
 
@@ -51,8 +49,8 @@ send-spec =
     (tie.spec
     Inv-loop
     μ-loop
-    element-copy-out-wide
-    wide-requires
+    shared-slice-read-usize-of-u16
+    usize-of-u16-requires
     loop-holds
     send-one-requires
     add-i
@@ -60,5 +58,4 @@ send-spec =
     loop-again
     same-length
     same-length-2
-    same-length-3
     returns)

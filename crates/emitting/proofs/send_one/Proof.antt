@@ -43,8 +43,11 @@ add-if1 c = search mine
 mul-if1 : tie.Need-mul-if1
 mul-if1 c = search mine
 
-element-copy-out-if1 : tie.Need-element-copy-out-if1
-element-copy-out-if1 c = search mine
+shared-slice-read-if1 : tie.Need-shared-slice-read-if1
+shared-slice-read-if1 c = search mine
+
+same-length : tie.Need-same-length
+same-length c = search mine
 
 returns : tie.Need-returns
 returns c = search mine
@@ -55,23 +58,23 @@ add-if2 c = search mine
 mul-if2 : tie.Need-mul-if2
 mul-if2 c = search mine
 
-element-copy-out-if2 : tie.Need-element-copy-out-if2
-element-copy-out-if2 c = search mine
-
-returns-2 : tie.Need-returns-2
-returns-2 c = search mine
-
-put-step-requires : tie.Need-put-step-requires
-put-step-requires c κs = search mine
-
-same-length : tie.Need-same-length
-same-length c = search mine
+slice-read-if2 : tie.Need-slice-read-if2
+slice-read-if2 c = search mine
 
 same-length-2 : tie.Need-same-length-2
 same-length-2 c = search mine
 
+returns-2 : tie.Need-returns-2
+returns-2 c = search mine
+
+write-step-requires : tie.Need-write-step-requires
+write-step-requires c κs = search mine
+
 same-length-3 : tie.Need-same-length-3
 same-length-3 c = search mine
+
+same-length-4 : tie.Need-same-length-4
+same-length-4 c = search mine
 
 returns-3 : tie.Need-returns-3
 returns-3 c = search mine
@@ -93,14 +96,15 @@ send-one-spec =
     numbers-at-requires-2
     add-if1
     mul-if1
-    element-copy-out-if1
+    shared-slice-read-if1
+    same-length
     returns
     add-if2
     mul-if2
-    element-copy-out-if2
-    returns-2
-    put-step-requires
-    same-length
+    slice-read-if2
     same-length-2
+    returns-2
+    write-step-requires
     same-length-3
+    same-length-4
     returns-3)

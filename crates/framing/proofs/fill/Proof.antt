@@ -6,10 +6,10 @@ use Rattle.framing.proofs.fill.Statement.{statement}
 use Rattle.framing.proofs.fill.Tie as tie
 
 abbrev Inv-loop : tie.InvT-loop
-Inv-loop firsts seconds thirds steps d literals from space₀ n end used₀ at₀ space used at = Filling firsts seconds thirds n d at₀ end space₀ used at space
+Inv-loop steps many d literals from space₀ n end used₀ at₀ space used at = Filling steps n d at₀ end space₀ used at space
 
 abbrev μ-loop : tie.MeasureT-loop
-μ-loop firsts seconds thirds steps d literals from space₀ n end used₀ at₀ space used at = end - at
+μ-loop steps many d literals from space₀ n end used₀ at₀ space used at = end - at
 
 held-requires : tie.Need-held-requires Inv-loop μ-loop
 held-requires c κs = search mine

@@ -4,23 +4,14 @@ use Rattle.framing.proofs.Frames.{mine}
 use Rattle.framing.proofs.put_item.Statement.{statement}
 use Rattle.framing.proofs.put_item.Tie as tie
 
-mul-put-step : tie.Need-mul-put-step
-mul-put-step c = search mine
+sides-in-requires : tie.Need-sides-in-requires
+sides-in-requires c κs = search mine
 
-shared-slice-read-put-step : tie.Need-shared-slice-read-put-step
-shared-slice-read-put-step c = search mine
+upper-in-requires : tie.Need-upper-in-requires
+upper-in-requires c κs = search mine
 
-mul-put-step-2 : tie.Need-mul-put-step-2
-mul-put-step-2 c = search mine
-
-shared-slice-read-put-step-2 : tie.Need-shared-slice-read-put-step-2
-shared-slice-read-put-step-2 c = search mine
-
-mul-put-step-3 : tie.Need-mul-put-step-3
-mul-put-step-3 c = search mine
-
-shared-slice-read-put-step-3 : tie.Need-shared-slice-read-put-step-3
-shared-slice-read-put-step-3 c = search mine
+lower-in-requires : tie.Need-lower-in-requires
+lower-in-requires c κs = search mine
 
 put-step-requires : tie.Need-put-step-requires
 put-step-requires c κs = search mine
@@ -44,12 +35,9 @@ pub put-item-spec : {M : Type 1} → statement M
 put-item-spec =
     tie.close
     (tie.spec
-    mul-put-step
-    shared-slice-read-put-step
-    mul-put-step-2
-    shared-slice-read-put-step-2
-    mul-put-step-3
-    shared-slice-read-put-step-3
+    sides-in-requires
+    upper-in-requires
+    lower-in-requires
     put-step-requires
     same-length
     returns

@@ -6,10 +6,10 @@ use Rattle.grounds.proofs.list.Statement.{statement}
 use Rattle.grounds.proofs.list.Tie as tie
 
 abbrev Inv-loop : tie.InvT-loop
-Inv-loop firsts seconds thirds steps d literals end sent₀ at₀ sent at = Listed firsts seconds thirds steps d literals at sent
+Inv-loop steps many d literals end sent₀ at₀ sent at = Listed steps many d literals at sent
 
 abbrev μ-loop : tie.MeasureT-loop
-μ-loop firsts seconds thirds steps d literals end sent₀ at₀ sent at = end - at
+μ-loop steps many d literals end sent₀ at₀ sent at = end - at
 
 items-requires : tie.Need-items-requires Inv-loop μ-loop
 items-requires c κs = search mine

@@ -1,4 +1,4 @@
--- `grounds::main` answers the bytes that were read, and its columns have room.
+-- `grounds::main` answers the bytes that were read, and its run has room.
 -- Assumes nothing.
 use Rattle.grounds.proofs.Handing.{mine}
 use Rattle.grounds.proofs.main.Statement.{statement}
@@ -21,12 +21,6 @@ slice-aggregate-answer c = search mine
 
 slice-aggregate-answer-2 : tie.Need-slice-aggregate-answer-2
 slice-aggregate-answer-2 c = search mine
-
-slice-aggregate-answer-3 : tie.Need-slice-aggregate-answer-3
-slice-aggregate-answer-3 c = search mine
-
-slice-aggregate-answer-4 : tie.Need-slice-aggregate-answer-4
-slice-aggregate-answer-4 c = search mine
 
 answer-requires : tie.Need-answer-requires
 answer-requires c κs = search mine
@@ -56,8 +50,6 @@ main-spec =
     array-share-prefix-input
     slice-aggregate-answer
     slice-aggregate-answer-2
-    slice-aggregate-answer-3
-    slice-aggregate-answer-4
     answer-requires
     report-requires
     enum-told

@@ -4,11 +4,11 @@ use Rattle.sweeping.proofs.Marking.{mine}
 use Rattle.sweeping.proofs.mark.Statement.{statement}
 use Rattle.sweeping.proofs.mark.Tie as tie
 
-element-copy-out-wide : tie.Need-element-copy-out-wide
-element-copy-out-wide c = search mine
+shared-slice-read-usize-of-u16 : tie.Need-shared-slice-read-usize-of-u16
+shared-slice-read-usize-of-u16 c = search mine
 
-wide-requires : tie.Need-wide-requires
-wide-requires c κs = search mine
+usize-of-u16-requires : tie.Need-usize-of-u16-requires
+usize-of-u16-requires c κs = search mine
 
 note-requires : tie.Need-note-requires
 note-requires c κs = search mine
@@ -16,10 +16,19 @@ note-requires c κs = search mine
 mark-steps-requires : tie.Need-mark-steps-requires
 mark-steps-requires c κs = search mine
 
+same-length : tie.Need-same-length
+same-length c = search mine
+
 returns : tie.Need-returns
 returns c = search mine
 
 pub mark-spec : {M : Type 1} → statement M
 mark-spec =
     tie.close
-    (tie.spec element-copy-out-wide wide-requires note-requires mark-steps-requires returns)
+    (tie.spec
+    shared-slice-read-usize-of-u16
+    usize-of-u16-requires
+    note-requires
+    mark-steps-requires
+    same-length
+    returns)

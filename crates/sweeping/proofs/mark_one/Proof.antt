@@ -10,8 +10,8 @@ add-if1 c = search mine
 mul-if1 : tie.Need-mul-if1
 mul-if1 c = search mine
 
-element-copy-out-if1 : tie.Need-element-copy-out-if1
-element-copy-out-if1 c = search mine
+slice-read-if1 : tie.Need-slice-read-if1
+slice-read-if1 c = search mine
 
 returns : tie.Need-returns
 returns c = search mine
@@ -25,8 +25,8 @@ add-if2 c = search mine
 mul-if2 : tie.Need-mul-if2
 mul-if2 c = search mine
 
-element-copy-out-if2 : tie.Need-element-copy-out-if2
-element-copy-out-if2 c = search mine
+shared-slice-read-if2 : tie.Need-shared-slice-read-if2
+shared-slice-read-if2 c = search mine
 
 returns-2 : tie.Need-returns-2
 returns-2 c = search mine
@@ -37,6 +37,9 @@ add-note-four c = search mine
 note-four-requires : tie.Need-note-four-requires
 note-four-requires c κs = search mine
 
+same-length : tie.Need-same-length
+same-length c = search mine
+
 returns-3 : tie.Need-returns-3
 returns-3 c = search mine
 
@@ -46,13 +49,14 @@ mark-one-spec =
     (tie.spec
     add-if1
     mul-if1
-    element-copy-out-if1
+    slice-read-if1
     returns
     mul-p
     add-if2
     mul-if2
-    element-copy-out-if2
+    shared-slice-read-if2
     returns-2
     add-note-four
     note-four-requires
+    same-length
     returns-3)

@@ -25,10 +25,22 @@ loop-less c = search mine
 loop-again : tie.Need-loop-again Inv-loop μ-loop
 loop-again c = search mine
 
+same-length : tie.Need-same-length Inv-loop μ-loop
+same-length c = search mine
+
 returns : tie.Need-returns Inv-loop μ-loop
 returns c = search mine
 
 pub mark-steps-spec : {M : Type 1} → statement M
 mark-steps-spec =
     tie.close
-    (tie.spec Inv-loop μ-loop loop-holds sub-left mark-one-requires loop-less loop-again returns)
+    (tie.spec
+    Inv-loop
+    μ-loop
+    loop-holds
+    sub-left
+    mark-one-requires
+    loop-less
+    loop-again
+    same-length
+    returns)

@@ -4,14 +4,17 @@ use Rattle.sweeping.proofs.Marking.{mine}
 use Rattle.sweeping.proofs.note.Statement.{statement}
 use Rattle.sweeping.proofs.note.Tie as tie
 
-wide-requires : tie.Need-wide-requires
-wide-requires c κs = search mine
+usize-of-u16-requires : tie.Need-usize-of-u16-requires
+usize-of-u16-requires c κs = search mine
 
 mul-marks : tie.Need-mul-marks
 mul-marks c = search mine
 
-element-write-marks : tie.Need-element-write-marks
-element-write-marks c = search mine
+slice-write-marks : tie.Need-slice-write-marks
+slice-write-marks c = search mine
+
+same-length : tie.Need-same-length
+same-length c = search mine
 
 returns : tie.Need-returns
 returns c = search mine
@@ -20,4 +23,6 @@ returns-2 : tie.Need-returns-2
 returns-2 c = search mine
 
 pub note-spec : {M : Type 1} → statement M
-note-spec = tie.close (tie.spec wide-requires mul-marks element-write-marks returns returns-2)
+note-spec =
+    tie.close
+    (tie.spec usize-of-u16-requires mul-marks slice-write-marks same-length returns returns-2)

@@ -7,8 +7,8 @@ use Rattle.sweeping.proofs.note_four.Tie as tie
 mul-note : tie.Need-mul-note
 mul-note c = search mine
 
-element-copy-out-note : tie.Need-element-copy-out-note
-element-copy-out-note c = search mine
+shared-slice-read-note : tie.Need-shared-slice-read-note
+shared-slice-read-note c = search mine
 
 note-requires : tie.Need-note-requires
 note-requires c κs = search mine
@@ -19,8 +19,8 @@ add-note c = search mine
 mul-note-2 : tie.Need-mul-note-2
 mul-note-2 c = search mine
 
-element-copy-out-note-2 : tie.Need-element-copy-out-note-2
-element-copy-out-note-2 c = search mine
+shared-slice-read-note-2 : tie.Need-shared-slice-read-note-2
+shared-slice-read-note-2 c = search mine
 
 note-requires-2 : tie.Need-note-requires-2
 note-requires-2 c κs = search mine
@@ -31,8 +31,8 @@ add-note-2 c = search mine
 mul-note-3 : tie.Need-mul-note-3
 mul-note-3 c = search mine
 
-element-copy-out-note-3 : tie.Need-element-copy-out-note-3
-element-copy-out-note-3 c = search mine
+shared-slice-read-note-3 : tie.Need-shared-slice-read-note-3
+shared-slice-read-note-3 c = search mine
 
 note-requires-3 : tie.Need-note-requires-3
 note-requires-3 c κs = search mine
@@ -43,11 +43,14 @@ add-note-3 c = search mine
 mul-note-4 : tie.Need-mul-note-4
 mul-note-4 c = search mine
 
-element-copy-out-note-4 : tie.Need-element-copy-out-note-4
-element-copy-out-note-4 c = search mine
+shared-slice-read-note-4 : tie.Need-shared-slice-read-note-4
+shared-slice-read-note-4 c = search mine
 
 note-requires-4 : tie.Need-note-requires-4
 note-requires-4 c κs = search mine
+
+same-length : tie.Need-same-length
+same-length c = search mine
 
 returns : tie.Need-returns
 returns c = search mine
@@ -57,18 +60,19 @@ note-four-spec =
     tie.close
     (tie.spec
     mul-note
-    element-copy-out-note
+    shared-slice-read-note
     note-requires
     add-note
     mul-note-2
-    element-copy-out-note-2
+    shared-slice-read-note-2
     note-requires-2
     add-note-2
     mul-note-3
-    element-copy-out-note-3
+    shared-slice-read-note-3
     note-requires-3
     add-note-3
     mul-note-4
-    element-copy-out-note-4
+    shared-slice-read-note-4
     note-requires-4
+    same-length
     returns)

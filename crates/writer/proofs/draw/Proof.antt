@@ -16,23 +16,9 @@ ends-with-requires c κs = search mine
 same-length : tie.Need-same-length
 same-length c = search mine
 
-same-length-2 : tie.Need-same-length-2
-same-length-2 c = search mine
-
-same-length-3 : tie.Need-same-length-3
-same-length-3 c = search mine
-
 returns : tie.Need-returns
 returns c = search mine
 
 pub draw-spec : {M : Type 1} → statement M
 draw-spec =
-    tie.close
-    (tie.spec
-    lay-requires
-    draw-all-requires
-    ends-with-requires
-    same-length
-    same-length-2
-    same-length-3
-    returns)
+    tie.close (tie.spec lay-requires draw-all-requires ends-with-requires same-length returns)

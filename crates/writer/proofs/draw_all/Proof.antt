@@ -7,17 +7,14 @@ use Rattle.writer.proofs.draw_all.Tie as tie
 close-all-requires : tie.Need-close-all-requires
 close-all-requires c κs = (search mine, search mine)
 
+slice-aggregate-draw-each : tie.Need-slice-aggregate-draw-each
+slice-aggregate-draw-each c = search mine
+
 draw-each-requires : tie.Need-draw-each-requires
 draw-each-requires c κs = (search mine, (search mine, (search mine, (search mine, search mine))))
 
 same-length : tie.Need-same-length
 same-length c = search mine
-
-same-length-2 : tie.Need-same-length-2
-same-length-2 c = search mine
-
-same-length-3 : tie.Need-same-length-3
-same-length-3 c = search mine
 
 returns : tie.Need-returns
 returns c = search mine
@@ -25,10 +22,4 @@ returns c = search mine
 pub draw-all-spec : {M : Type 1} → statement M
 draw-all-spec =
     tie.close
-    (tie.spec
-    close-all-requires
-    draw-each-requires
-    same-length
-    same-length-2
-    same-length-3
-    returns)
+    (tie.spec close-all-requires slice-aggregate-draw-each draw-each-requires same-length returns)

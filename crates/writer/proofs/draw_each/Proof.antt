@@ -2,16 +2,17 @@
 -- Assumes nothing.
 use mathlib.Core.Path.{_≡_}
 use Prim.Native.Nat.{_-_}
+use Rattle.batches.specs.Sending.{outOf}
 use Rattle.writer.proofs.Turning.{Turning, mine}
 use Rattle.writer.proofs.draw_each.Statement.{statement}
 use Rattle.writer.proofs.draw_each.Tie as tie
 
 abbrev Inv-loop : tie.InvT-loop
-Inv-loop cells₀ classes news₀ ends₀ differences₀ firsts₀ seconds₀ thirds₀ c k t from literals next₀ j₀ cells news ends differences firsts seconds thirds next j =
-    (literals ≡ k .literals) × Turning c k t firsts₀ seconds₀ thirds₀ j cells news next firsts seconds thirds ends differences
+Inv-loop cells₀ classes news₀ ends₀ differences₀ steps₀ c k t from literals next₀ j₀ cells news ends differences steps next j =
+    (literals ≡ k .literals) × Turning c k t steps₀ j cells (outOf news next steps) ends differences
 
 abbrev μ-loop : tie.MeasureT-loop
-μ-loop cells₀ classes news₀ ends₀ differences₀ firsts₀ seconds₀ thirds₀ c k t from literals next₀ j₀ cells news ends differences firsts seconds thirds next j =
+μ-loop cells₀ classes news₀ ends₀ differences₀ steps₀ c k t from literals next₀ j₀ cells news ends differences steps next j =
     literals - j
 
 element-copy-out-from : tie.Need-element-copy-out-from Inv-loop μ-loop
@@ -38,9 +39,6 @@ same-length c = search mine
 same-length-2 : tie.Need-same-length-2 Inv-loop μ-loop
 same-length-2 c = search mine
 
-same-length-3 : tie.Need-same-length-3 Inv-loop μ-loop
-same-length-3 c = search mine
-
 returns : tie.Need-returns Inv-loop μ-loop
 returns c = search mine
 
@@ -58,5 +56,4 @@ draw-each-spec =
     loop-again
     same-length
     same-length-2
-    same-length-3
     returns)

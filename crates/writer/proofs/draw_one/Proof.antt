@@ -10,11 +10,11 @@ say-one-requires c κs = (search mine, (search mine, search mine))
 owner-of-requires : tie.Need-owner-of-requires
 owner-of-requires c κs = (search mine, search mine)
 
-wide-requires : tie.Need-wide-requires
-wide-requires c κs = search mine
+usize-of-u16-requires : tie.Need-usize-of-u16-requires
+usize-of-u16-requires c κs = search mine
 
 batch-requires : tie.Need-batch-requires
-batch-requires c κs = (search mine, (search mine, (search mine, search mine)))
+batch-requires c κs = search mine
 
 new-of-requires : tie.Need-new-of-requires
 new-of-requires c κs = search mine
@@ -37,9 +37,6 @@ same-length c = search mine
 same-length-2 : tie.Need-same-length-2
 same-length-2 c = search mine
 
-same-length-3 : tie.Need-same-length-3
-same-length-3 c = search mine
-
 returns : tie.Need-returns
 returns c = search mine
 
@@ -49,7 +46,7 @@ draw-one-spec =
     (tie.spec
     say-one-requires
     owner-of-requires
-    wide-requires
+    usize-of-u16-requires
     batch-requires
     new-of-requires
     mul-ends
@@ -58,5 +55,4 @@ draw-one-spec =
     element-write-differences
     same-length
     same-length-2
-    same-length-3
     returns)

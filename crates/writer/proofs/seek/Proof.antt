@@ -14,7 +14,7 @@ enum-known-kind : tie.Need-enum-known-kind
 enum-known-kind c = search mine
 
 draw-requires : tie.Need-draw-requires
-draw-requires c κs = search mine
+draw-requires c κs = (search mine, search mine)
 
 enum-told : tie.Need-enum-told
 enum-told c = search mine
@@ -30,12 +30,6 @@ bare-requires-2 c κs = search mine
 
 same-length : tie.Need-same-length
 same-length c = search mine
-
-same-length-2 : tie.Need-same-length-2
-same-length-2 c = search mine
-
-same-length-3 : tie.Need-same-length-3
-same-length-3 c = search mine
 
 returns : tie.Need-returns
 returns c = search mine
@@ -59,8 +53,6 @@ seek-spec =
     enum-told-2
     bare-requires-2
     same-length
-    same-length-2
-    same-length-3
     returns
     returns-2
     returns-3)

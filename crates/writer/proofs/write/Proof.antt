@@ -28,26 +28,14 @@ refused-requires-2 c κs = search mine
 same-length : tie.Need-same-length
 same-length c = search mine
 
-same-length-2 : tie.Need-same-length-2
-same-length-2 c = search mine
-
-same-length-3 : tie.Need-same-length-3
-same-length-3 c = search mine
-
 returns-2 : tie.Need-returns-2
 returns-2 c = search mine
 
 seek-requires : tie.Need-seek-requires
 seek-requires c κs = (search mine, search mine)
 
-same-length-4 : tie.Need-same-length-4
-same-length-4 c = search mine
-
-same-length-5 : tie.Need-same-length-5
-same-length-5 c = search mine
-
-same-length-6 : tie.Need-same-length-6
-same-length-6 c = search mine
+same-length-2 : tie.Need-same-length-2
+same-length-2 c = search mine
 
 returns-3 : tie.Need-returns-3
 returns-3 c = search mine
@@ -64,11 +52,7 @@ write-spec =
     cramped-requires
     refused-requires-2
     same-length
-    same-length-2
-    same-length-3
     returns-2
     seek-requires
-    same-length-4
-    same-length-5
-    same-length-6
+    same-length-2
     returns-3)

@@ -4,8 +4,8 @@ use Rattle.emitting.proofs.Wording.{mine}
 use Rattle.emitting.proofs.words.mark_of.Statement.{statement}
 use Rattle.emitting.proofs.words.mark_of.Tie as tie
 
-long-requires : tie.Need-long-requires
-long-requires c κs = search mine
+usize-of-u16-requires : tie.Need-usize-of-u16-requires
+usize-of-u16-requires c κs = search mine
 
 returns : tie.Need-returns
 returns c = search mine
@@ -14,4 +14,4 @@ returns-2 : tie.Need-returns-2
 returns-2 c = search mine
 
 pub mark-of-spec : {M : Type 1} → statement M
-mark-of-spec = tie.close (tie.spec long-requires returns returns-2)
+mark-of-spec = tie.close (tie.spec usize-of-u16-requires returns returns-2)

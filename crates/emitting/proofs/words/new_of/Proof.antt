@@ -4,8 +4,8 @@ use Rattle.emitting.proofs.Wording.{mine}
 use Rattle.emitting.proofs.words.new_of.Statement.{statement}
 use Rattle.emitting.proofs.words.new_of.Tie as tie
 
-wide-requires : tie.Need-wide-requires
-wide-requires c κs = search mine
+usize-of-u16-requires : tie.Need-usize-of-u16-requires
+usize-of-u16-requires c κs = search mine
 
 returns : tie.Need-returns
 returns c = search mine
@@ -25,4 +25,10 @@ returns-3 c = search mine
 pub new-of-spec : {M : Type 1} → statement M
 new-of-spec =
     tie.close
-    (tie.spec wide-requires returns mul-result shared-slice-read-result returns-2 returns-3)
+    (tie.spec
+    usize-of-u16-requires
+    returns
+    mul-result
+    shared-slice-read-result
+    returns-2
+    returns-3)

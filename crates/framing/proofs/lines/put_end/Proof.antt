@@ -4,23 +4,23 @@ use Rattle.framing.proofs.Frames.{mine}
 use Rattle.framing.proofs.lines.put_end.Statement.{statement}
 use Rattle.framing.proofs.lines.put_end.Tie as tie
 
-mul-wide32 : tie.Need-mul-wide32
-mul-wide32 c = search mine
+mul-u64-of-u32 : tie.Need-mul-u64-of-u32
+mul-u64-of-u32 c = search mine
 
-element-copy-out-wide32 : tie.Need-element-copy-out-wide32
-element-copy-out-wide32 c = search mine
+element-copy-out-u64-of-u32 : tie.Need-element-copy-out-u64-of-u32
+element-copy-out-u64-of-u32 c = search mine
 
-wide32-requires : tie.Need-wide32-requires
-wide32-requires c κs = search mine
+u64-of-u32-requires : tie.Need-u64-of-u32-requires
+u64-of-u32-requires c κs = search mine
 
-mul-wide16 : tie.Need-mul-wide16
-mul-wide16 c = search mine
+mul-u64-of-u16 : tie.Need-mul-u64-of-u16
+mul-u64-of-u16 c = search mine
 
-element-copy-out-wide16 : tie.Need-element-copy-out-wide16
-element-copy-out-wide16 c = search mine
+element-copy-out-u64-of-u16 : tie.Need-element-copy-out-u64-of-u16
+element-copy-out-u64-of-u16 c = search mine
 
-wide16-requires : tie.Need-wide16-requires
-wide16-requires c κs = search mine
+u64-of-u16-requires : tie.Need-u64-of-u16-requires
+u64-of-u16-requires c κs = search mine
 
 add-literal : tie.Need-add-literal
 add-literal c = search mine
@@ -38,12 +38,12 @@ pub put-end-spec : {M : Type 1} → statement M
 put-end-spec =
     tie.close
     (tie.spec
-    mul-wide32
-    element-copy-out-wide32
-    wide32-requires
-    mul-wide16
-    element-copy-out-wide16
-    wide16-requires
+    mul-u64-of-u32
+    element-copy-out-u64-of-u32
+    u64-of-u32-requires
+    mul-u64-of-u16
+    element-copy-out-u64-of-u16
+    u64-of-u16-requires
     add-literal
     put-fields-requires
     same-length

@@ -22,12 +22,6 @@ reply-line-requires c κs = search mine
 same-length : tie.Need-same-length
 same-length c = search mine
 
-same-length-2 : tie.Need-same-length-2
-same-length-2 c = search mine
-
-same-length-3 : tie.Need-same-length-3
-same-length-3 c = search mine
-
 returns-2 : tie.Need-returns-2
 returns-2 c = search mine
 
@@ -41,6 +35,4 @@ open-spec =
     write-requires
     reply-line-requires
     same-length
-    same-length-2
-    same-length-3
     returns-2)
