@@ -5,7 +5,7 @@
 --     mine                       what the functions of `table` leave to show
 -- Assumes nothing.
 use mathlib.Core.Bool.{Bool, true, false}
-use mathlib.Core.List.{List, [], _∷_, _++_, map}
+use mathlib.Core.List.{List, [], _∷_, _++_}
 use mathlib.Core.Path.{_≡_, refl, ap, ap₂, sym, _∙_, subst}
 use mathlib.Core.Logic.{inl, inr}
 use Prim.Native.Nat.{ℕ, suc, _+_, _-_, _*_, _≤_, _<_}
@@ -17,7 +17,7 @@ use borrow.Author.Tests.{ltb-true, ltb-false}
 use lib.ListN.{length, getD, set, take, drop, length-append, length-drop, length-set, List·getD-append, List·getD-map}
 use lib.Seq.{length-take-le, getD-take, getD-append-add, getD-set-same, getD-set-other, ext-getD}
 use Rattle.meaning.specs.Context.{Row, row₀, rowAt}
-use Rattle.meaning.specs.Rules.{Pattern, variable, apply, variables, Below}
+use Rattle.meaning.specs.Rules.{Pattern, variable, variables, Below}
 use Rattle.meaning.specs.Formed.{Ordered}
 use Rattle.meaning.specs.Values.{numberAt, argsOf}
 use Rattle.meaning.specs.Checking.{entryOf, keyOf, keysOf, sameKey, alike}
@@ -25,7 +25,7 @@ use Rattle.meaning.proofs.Lists.{below-wider}
 use Rattle.meaning.proofs.Entries.{length-map, length-entries, entry-front, entry-back, entries-ordered, variable-counted}
 use Rattle.meaning.proofs.Faithful.{Outcome, faithful-next}
 use Rattle.runs.specs.Limits.{mostVariables, rowSize, argPlaces}
-use Rattle.runs.specs.Runs.{put, rowCount, symbolIn, countIn, argIn, rowIn, rowsOf, patternCount, patternKindIn, headIn, patternCountIn, patternIn, patternsOf}
+use Rattle.runs.specs.Runs.{put, rowCount, countIn, rowIn, rowsOf, patternCount, patternKindIn, headIn, patternCountIn, patternIn, patternsOf}
 use Rattle.runs.proofs.Saying.{length-rows, length-patterns, rows-at, patterns-at, pattern-variable, pattern-symbol}
 use Rattle.grounds_numbers.specs.Limits.{mostNumbers}
 use Rattle.grounds_numbers.specs.Keys.{after, Holds, placesIn, KeyAt, Copied, patternRow, Keyed, Like, like-found, like-none, Numbered}

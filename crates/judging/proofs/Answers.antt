@@ -13,10 +13,10 @@ use Rattle.meaning.specs.Text.{Limits, narrow, Refusal, Read, Reading, faulty, 
 use Rattle.meaning.specs.Replies as M
 use Rattle.meaning.specs.Replies.{refusal, Replies, RepliesTo}
 use Rattle.meaning.specs.Grounds.{Step, Conclusion, accepted}
-use Rattle.meaning.specs.GroundColumns.{stepsFrom}
 use Rattle.meaning.proofs.Apartness.{first-clash-one}
 use Rattle.meaning.proofs.Grounded as G
 use Rattle.meaning.proofs.Grounded.{verdict-one}
+use Rattle.grounds_steps.specs.Steps.{stepsOf}
 use Rattle.verifier.proofs.Answers.{verdict-answer}
 use Rattle.replies.specs.Told.{meant}
 use Rattle.verifier.specs.declared.Conclusions.{Conclusions}
@@ -97,8 +97,8 @@ outcome-one (O.Refused x) (O.Refused y) e =
     let o : x .offset ≡ y .offset = ap (λ (w : Refusal). w .offset) z in
     ap O.Refused (rw (n, l, o))
 
-pub judges-one : (text a firsts seconds thirds : List ℕ) (d : Conclusions) (r q : Outcome) → JudgesTo text a firsts seconds thirds d r
-    → JudgesTo text a firsts seconds thirds d q
+pub judges-one : (text a : List ℕ) (steps : List (List ℕ)) (d : Conclusions) (r q : Outcome) → JudgesTo text a steps d r
+    → JudgesTo text a steps d q
     → r ≡ q
-judges-one text a firsts seconds thirds d r q v w =
-    outcome-one r q (judgement-one a (stepsFrom firsts seconds thirds) (concludedIn d) narrow text (judgementOf r) (judgementOf q) (v .judges) (w .judges))
+judges-one text a steps d r q v w =
+    outcome-one r q (judgement-one a (stepsOf steps) (concludedIn d) narrow text (judgementOf r) (judgementOf q) (v .judges) (w .judges))

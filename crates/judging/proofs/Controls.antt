@@ -19,8 +19,9 @@ use Rattle.meaning.specs.Replies.{Replies, RepliesTo}
 use Rattle.meaning.specs.ByTable.{sameList}
 use Rattle.meaning.specs.Sheet.{sheet, bytes}
 use Rattle.meaning.specs.Grounds.{Step, Conclusion, conclusionFor, Verdict}
-use Rattle.meaning.specs.GroundColumns.{stepFrom, stepsFrom, conclusionFrom, conclusionsFrom}
+use Rattle.meaning.specs.GroundColumns.{stepFrom, conclusionFrom, conclusionsFrom}
 use Rattle.meaning.specs.Checking.{entryOf, entries, keyOf, keysOf, sameKey, numbered, alike, numberLike, numbersTo, numbersOf, numberBelow, sideOf, counts, isUnequal, ownerBy, sidesBy, usedBy, citedBy, pairedBy, metBy, eachBy, congruentBy, addsBy, addedBy, derivesBy, followsBy, differsBySteps, concludesBy, firstFalse, assignedBy, choose, concludedBy, verdictBy}
+use Rattle.grounds_steps.specs.Steps.{wordsOf, stepsOf}
 use Rattle.meaning.proofs.Sheet.{sheet-shown}
 use Rattle.meaning.proofs.Taken.{read-formed}
 use Rattle.meaning.proofs.Verdicts.{verdictBy-verified}
@@ -35,10 +36,10 @@ use Rattle.judging.specs.declared.Outcome.the-variants.{Judged}
 use Rattle.judging.proofs.Answers.{judges-one}
 
 abbrev pub Checker : Type 0
-Checker = (text a firsts seconds thirds : List ℕ) (d : Conclusions) → Outcome
+Checker = (text a : List ℕ) (steps : List (List ℕ)) (d : Conclusions) → Outcome
 
 abbrev pub Right : Checker → Type 0
-Right f = (text a firsts seconds thirds : List ℕ) (d : Conclusions) → JudgesTo text a firsts seconds thirds d (f text a firsts seconds thirds d)
+Right f = (text a : List ℕ) (steps : List (List ℕ)) (d : Conclusions) → JudgesTo text a steps d (f text a steps d)
 
 -- ---- the lullaby
 
@@ -99,20 +100,21 @@ word owner kind mark row mark′ row′ = ((((owner * 256 + kind) * 256 + mark) 
 abbrev two : ℕ → ℕ → ℕ
 two x y = x * 4294967296 + y
 
-abbrev pub sides : List ℕ
-sides =
-    word 0 1 0 4 0 1
-    ∷ word 0 1 0 5 0 3
-    ∷ word 0 1 0 6 0 2
-    ∷ word 0 3 0 2 0 6
-    ∷ word 2 6 1 3 1 4
-    ∷ word 2 3 1 4 1 3
-    ∷ word 2 4 0 2 1 3
-    ∷ word 2 4 0 2 0 3
+abbrev pub grounds : List (List ℕ)
+grounds =
+    wordsOf (word 0 1 0 4 0 1) (two 1 0) 0
+    ∷ wordsOf (word 0 1 0 5 0 3) (two 2 0) 0
+    ∷ wordsOf (word 0 1 0 6 0 2) (two 3 0) 0
+    ∷ wordsOf (word 0 3 0 2 0 6) (two 3 0) 0
+    ∷ wordsOf (word 2 6 1 3 1 4) (two 0 0) 0
+    ∷ wordsOf (word 2 3 1 4 1 3) (two 5 0) 0
+    ∷ wordsOf (word 2 4 0 2 1 3) (two 4 6) 0
+    ∷ wordsOf (word 2 4 0 2 0 3) (two 7 2) 0
     ∷ []
 
-abbrev pub numbers : List ℕ
-numbers = two 1 0 ∷ two 2 0 ∷ two 3 0 ∷ two 3 0 ∷ two 0 0 ∷ two 5 0 ∷ two 4 6 ∷ two 7 2 ∷ []
+-- a step of kind 00
+abbrev noStep : List (List ℕ)
+noStep = wordsOf 0 0 0 ∷ []
 
 abbrev pub places : List ℕ
 places = 0 ∷ 1 ∷ 255 ∷ 255 ∷ []
@@ -126,15 +128,15 @@ noEnds = record { firsts = replicate 16 0; differences = replicate 16 0 }
 abbrev pub verdictOn : List ℕ → List Step → List Conclusion → Verdict
 verdictOn a steps ds = verdictBy (said .ledger .context) (said .clause) a steps ds
 
-abbrev verdict : List ℕ → List ℕ → List ℕ → List ℕ → Conclusions → Verdict
-verdict a firsts seconds thirds d = verdictOn a (stepsFrom firsts seconds thirds) (concludedIn d)
+abbrev verdict : List ℕ → List (List ℕ) → Conclusions → Verdict
+verdict a steps d = verdictOn a (stepsOf steps) (concludedIn d)
 
 computed :
-    (verdict places sides numbers (replicate 8 0) ends ≡ verdictOf Accepted)
-    × (verdict (replicate 4 255) sides numbers (replicate 8 0) ends ≡ verdictOf (Unassigned 0))
-    × (verdict places (0 ∷ []) (0 ∷ []) (0 ∷ []) ends ≡ verdictOf (Bad 1))
-    × (verdict places sides numbers (replicate 8 0) noEnds ≡ verdictOf (Unconcluded 1))
-unfolding stepFrom stepsFrom conclusionFrom conclusionsFrom entryOf entries keyOf keysOf sameKey numbered alike numberLike numbersTo numbersOf numberBelow sideOf counts isUnequal ownerBy sidesBy usedBy citedBy pairedBy metBy eachBy congruentBy addsBy addedBy derivesBy followsBy differsBySteps concludesBy firstFalse assignedBy choose concludedBy verdictBy sameList conclusionFor variables equationsOf differencesOf
+    (verdict places grounds ends ≡ verdictOf Accepted)
+    × (verdict (replicate 4 255) grounds ends ≡ verdictOf (Unassigned 0))
+    × (verdict places noStep ends ≡ verdictOf (Bad 1))
+    × (verdict places grounds noEnds ≡ verdictOf (Unconcluded 1))
+unfolding stepsOf stepFrom conclusionFrom conclusionsFrom entryOf entries keyOf keysOf sameKey numbered alike numberLike numbersTo numbersOf numberBelow sideOf counts isUnequal ownerBy sidesBy usedBy citedBy pairedBy metBy eachBy congruentBy addsBy addedBy derivesBy followsBy differsBySteps concludesBy firstFalse assignedBy choose concludedBy verdictBy sameList conclusionFor variables equationsOf differencesOf
 computed = (refl, refl, refl, refl)
 
 -- what is computed is the judgement
@@ -144,42 +146,42 @@ lullaby-judged a steps ds v e =
     (weighs (λ z. let o : _≡_ {A = ℕ} 0 1 = cc in omega arith) consistent v
     (rw e at (verdictBy-verified (said .ledger .context) (said .clause) a steps ds (read-formed narrow lullaby said reads))))
 
-judged-so : (a firsts seconds thirds : List ℕ) (d : Conclusions) (v : Answer) → verdict a firsts seconds thirds d ≡ verdictOf v
-    → JudgesTo lullaby a firsts seconds thirds d (Judged v)
-judged-so a firsts seconds thirds d v e = record { judges = lullaby-judged a (stepsFrom firsts seconds thirds) (concludedIn d) (verdictOf v) e }
+judged-so : (a : List ℕ) (steps : List (List ℕ)) (d : Conclusions) (v : Answer) → verdict a steps d ≡ verdictOf v
+    → JudgesTo lullaby a steps d (Judged v)
+judged-so a steps d v e = record { judges = lullaby-judged a (stepsOf steps) (concludedIn d) (verdictOf v) e }
 
 module _ (f : Checker) (right : Right f) where
-  answers : (a firsts seconds thirds : List ℕ) (d : Conclusions) (v : Answer) → verdict a firsts seconds thirds d ≡ verdictOf v → f lullaby a firsts seconds thirds d ≡ Judged v
-  answers a firsts seconds thirds d v e =
-      judges-one lullaby a firsts seconds thirds d (f lullaby a firsts seconds thirds d) (Judged v) (right lullaby a firsts seconds thirds d) (judged-so a firsts seconds thirds d v e)
+  answers : (a : List ℕ) (steps : List (List ℕ)) (d : Conclusions) (v : Answer) → verdict a steps d ≡ verdictOf v → f lullaby a steps d ≡ Judged v
+  answers a steps d v e =
+      judges-one lullaby a steps d (f lullaby a steps d) (Judged v) (right lullaby a steps d) (judged-so a steps d v e)
 
   -- the grounds as they are; without an assignment; a step of kind 00; without conclusions
-  pub some-accepted : f lullaby places sides numbers (replicate 8 0) ends ≡ Judged Accepted
-  some-accepted = answers places sides numbers (replicate 8 0) ends Accepted (computed .0)
+  pub some-accepted : f lullaby places grounds ends ≡ Judged Accepted
+  some-accepted = answers places grounds ends Accepted (computed .0)
 
-  pub some-unassigned : f lullaby (replicate 4 255) sides numbers (replicate 8 0) ends ≡ Judged (Unassigned 0)
-  some-unassigned = answers (replicate 4 255) sides numbers (replicate 8 0) ends (Unassigned 0) (computed .1)
+  pub some-unassigned : f lullaby (replicate 4 255) grounds ends ≡ Judged (Unassigned 0)
+  some-unassigned = answers (replicate 4 255) grounds ends (Unassigned 0) (computed .1)
 
-  pub some-bad : f lullaby places (0 ∷ []) (0 ∷ []) (0 ∷ []) ends ≡ Judged (Bad 1)
-  some-bad = answers places (0 ∷ []) (0 ∷ []) (0 ∷ []) ends (Bad 1) (computed .2)
+  pub some-bad : f lullaby places noStep ends ≡ Judged (Bad 1)
+  some-bad = answers places noStep ends (Bad 1) (computed .2)
 
-  pub some-open : f lullaby places sides numbers (replicate 8 0) noEnds ≡ Judged (Unconcluded 1)
-  some-open = answers places sides numbers (replicate 8 0) noEnds (Unconcluded 1) (computed .3)
+  pub some-open : f lullaby places grounds noEnds ≡ Judged (Unconcluded 1)
+  some-open = answers places grounds noEnds (Unconcluded 1) (computed .3)
 
   -- accepts nothing
-  pub no-rejecting : ((a firsts seconds thirds : List ℕ) (d : Conclusions) → f lullaby a firsts seconds thirds d ≡ Judged Accepted → ⊥) → ⊥
-  no-rejecting h = h places sides numbers (replicate 8 0) ends some-accepted
+  pub no-rejecting : ((a : List ℕ) (steps : List (List ℕ)) (d : Conclusions) → f lullaby a steps d ≡ Judged Accepted → ⊥) → ⊥
+  no-rejecting h = h places grounds ends some-accepted
 
   -- accepts whatever stands behind an assignment
-  pub no-accepting : ((firsts seconds thirds : List ℕ) (d : Conclusions) → f lullaby places firsts seconds thirds d ≡ Judged Accepted) → ⊥
+  pub no-accepting : ((steps : List (List ℕ)) (d : Conclusions) → f lullaby places steps d ≡ Judged Accepted) → ⊥
   no-accepting h =
-      let e : Judged Accepted ≡ Judged (Bad 1) = sym (h (0 ∷ []) (0 ∷ []) (0 ∷ []) ends) ∙ some-bad in let z : _≡_ {A = ℕ} 0 1 = cc in omega arith
+      let e : Judged Accepted ≡ Judged (Bad 1) = sym (h noStep ends) ∙ some-bad in let z : _≡_ {A = ℕ} 0 1 = cc in omega arith
 
   -- accepts steps that hold together, whatever is concluded
-  pub no-unconcerned : ((d : Conclusions) → f lullaby places sides numbers (replicate 8 0) d ≡ Judged Accepted) → ⊥
+  pub no-unconcerned : ((d : Conclusions) → f lullaby places grounds d ≡ Judged Accepted) → ⊥
   no-unconcerned h = let e : Judged Accepted ≡ Judged (Unconcluded 1) = sym (h noEnds) ∙ some-open in let z : _≡_ {A = ℕ} 0 1 = cc in omega arith
 
   -- names a variable whatever the assignment
-  pub no-unassigning : ((a : List ℕ) → (v : ℕ) × (f lullaby a sides numbers (replicate 8 0) ends ≡ Judged (Unassigned v))) → ⊥
+  pub no-unassigning : ((a : List ℕ) → (v : ℕ) × (f lullaby a grounds ends ≡ Judged (Unassigned v))) → ⊥
   no-unassigning h =
       let e : Judged (Unassigned (h places .0)) ≡ Judged Accepted = sym (h places .1) ∙ some-accepted in let z : _≡_ {A = ℕ} 0 1 = cc in omega arith

@@ -1,15 +1,12 @@
 // The checker of anybody's grounds for a breach of a text's rule: a refusal of the text, or the verdict on the grounds.
-use ledger::ClauseColumns;
-use ledger::ContextColumns;
-use prepared::prepare;
+use grounds_steps::WORDS;
 use replies::Refusal;
+use ruling::rule;
+use runs::limits::VARIABLES;
+use told::Filled;
 use verifier::Answer;
 use verifier::Conclusions;
-ghost use Rattle.meaning.specs.Grounds.{Verified};
-ghost use Rattle.meaning.specs.GroundColumns.{stepsFrom};
-ghost use Rattle.verifier.specs.Claims.{verdictOf};
-ghost use Rattle.prepared.specs.Claims.{said, asked, Asks};
-ghost use Rattle.judging.specs.Claims.{concludedIn, JudgesTo};
+ghost use Rattle.judging.specs.Claims.{JudgesTo, Asks, JudgedIn};
 
 // The verdict, or the refusal of the text.
 pub enum Outcome {
@@ -17,67 +14,55 @@ pub enum Outcome {
     Refused(Refusal),
 }
 
-// The verdict on the grounds.
+// The verdict on the grounds, by the filled parts of the runs that were told.
 fn verdict<'a>(
-    c: ContextColumns,
-    k: ClauseColumns,
-    asg: [u16; 4],
-    firsts: &'a [u64],
-    seconds: &'a [u64],
-    thirds: &'a [u64],
+    rows: &'a [u16],
+    said: &'a [u16],
+    patterns: &'a [u16],
+    literals: &'a [u16],
+    filled: Filled,
+    asg: [u16; VARIABLES],
+    steps: &'a [[u64; WORDS]],
     d: Conclusions,
 ) -> Answer
-    requires { ⌜ Asks c k ⌝ }
-    ensures { λ r. ⌜ Verified (said c) (asked k) asg (stepsFrom (now (firsts .entry)) (now (seconds .entry)) (now (thirds .entry))) (concludedIn d) (verdictOf r) ⌝ }
+    requires { ⌜ Asks (now rows) (now said) (now patterns) (now literals) filled ⌝ }
+    ensures { λ r. ⌜ JudgedIn (now (rows .entry)) (now (said .entry)) (now (patterns .entry)) (now (literals .entry)) filled asg (now (steps .entry)) d r ⌝ }
 {
-    let rows = c.rows;
-    let statements = c.statements;
-    let patterns = k.patterns;
-    let literals = k.literals;
+    let n = filled.rows;
+    let m = filled.said;
+    let p = filled.patterns;
+    let q = filled.literals;
     verifier::judge(
-        &c.symbols,
-        &c.counts,
-        &c.args,
-        rows,
-        &c.kinds,
-        &c.lefts,
-        &c.rights,
-        statements,
-        &k.kinds,
-        &k.heads,
-        &k.counts,
-        &k.args,
-        patterns,
-        &k.signs,
-        &k.lefts,
-        &k.rights,
-        literals,
+        &rows[..n],
+        &said[..m],
+        &patterns[..p],
+        &literals[..q],
         asg,
-        firsts,
-        seconds,
-        thirds,
+        steps,
         d,
     )
 }
 
-// The refusal of the text, as the finder's; else the verdict on the grounds. There are as many steps as the shortest column has places.
-pub fn judge<'a>(
-    text: &'a [u8],
-    asg: [u16; 4],
-    firsts: &'a [u64],
-    seconds: &'a [u64],
-    thirds: &'a [u64],
-    d: Conclusions,
-) -> Outcome
-    ensures judges { λ r. ⌜ JudgesTo (now (text .entry)) asg (now (firsts .entry)) (now (seconds .entry)) (now (thirds .entry)) d r ⌝ }
+// The refusal of the text, as the finder's; else the verdict on the grounds.
+pub fn judge(text: &[u8], asg: [u16; VARIABLES], steps: &[[u64; WORDS]], d: Conclusions) -> Outcome
+    ensures judges { λ r. ⌜ JudgesTo (now (text .entry)) asg (now (steps .entry)) d r ⌝ }
 {
-    let p = prepare(text);
-    let answer = p.answer;
-    if let prepared::Answer::Refused(x) = answer {
+    let ruled = rule(text);
+    let answer = ruled.answer;
+    if let ruling::Answer::Refused(x) = answer {
         return Outcome::Refused(x);
     }
-    let context = p.context;
-    let clause = p.clause;
-    let judged = verdict(context, clause, asg, firsts, seconds, thirds, d);
+    let told = ruled.told;
+    let filled = told.filled;
+    let judged = verdict(
+        &told.rows,
+        &told.said,
+        &told.patterns,
+        &told.literals,
+        filled,
+        asg,
+        steps,
+        d,
+    );
     Outcome::Judged(judged)
 }

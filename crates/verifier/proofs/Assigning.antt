@@ -1,4 +1,4 @@
--- The variables of pattern rows in columns, and the rows that an assignment gives them.
+-- The variables of pattern rows in a run, and the rows that an assignment gives them.
 --     Counting, counting-..   the number of variables of the rows passed
 --     mine                    what the functions of `assignment` leave to show
 -- Assumes nothing.
@@ -13,9 +13,11 @@ use borrow.Author.Needs.{needs}
 use borrow.Author.Tests.{eq-eqb, ne-eqb, lt-ltb, le-ltb}
 use lib.ListN.{length, getD}
 use Rattle.meaning.specs.Rules.{Pattern, variable, apply, variables}
-use Rattle.meaning.specs.Columns.{patternOf, patternsFrom, argsAt}
+use Rattle.meaning.specs.Columns.{patternOf}
 use Rattle.meaning.specs.Checking.{assignedBy}
-use Rattle.verifier.specs.Tables.{reach}
+use Rattle.runs.specs.Limits.{mostVariables}
+use Rattle.runs.specs.Runs.{each, patternCount, patternKindIn, headIn, patternArgsIn, patternIn, patternsOf}
+use Rattle.verifier.specs.Tests.{mostHeads, reach}
 
 module _ (n kind head : ℕ) where
   pub reach-other : (kind ≡ 4 → ⊥) → n ≡ reach n kind head
@@ -51,39 +53,52 @@ variables-snoc ps n kind head l e = go (eqb kind 4) refl ps e
         same (variable v ∷ rs) = ap (λ (x : ℕ). max (suc v) x) (same rs)
         same (apply h k ∷ rs) = same rs
 
--- n is the number of variables of the first p rows
-pub record Counting (kinds heads counts args : List ℕ) (patterns p n : ℕ) : Type 0 where
-  pub most : p ≤ patterns
-  pub small : n ≤ 65536
-  pub counted : n ≡ variables (patternsFrom kinds heads counts args p)
+-- n is the number of variables of the first p of m rows
+pub record Counting (patterns : List ℕ) (m p n : ℕ) : Type 0 where
+  pub count : m ≡ patternCount patterns
+  pub most : p ≤ m
+  pub small : n ≤ mostHeads
+  pub counted : n ≡ variables (each (patternIn patterns) p)
 
-module _ (kinds heads counts args : List ℕ) (patterns p n : ℕ) where
-  pub counting-start : Counting kinds heads counts args patterns 0 0
-  unfolding patternsFrom variables
-  counting-start = record { most = omega arith; small = omega arith; counted = refl }
+module _ (patterns : List ℕ) (m p n : ℕ) where
+  pub counting-start : m ≡ patternCount patterns → Counting patterns m 0 0
+  unfolding each variables
+  counting-start e = record { count = e; most = omega arith; small = omega arith; counted = refl }
 
-  pub counting-next : (r : ℕ) → Counting kinds heads counts args patterns p n → p < patterns → (r ≡ reach n (getD kinds p 0) (getD heads p 0)) × (r ≤ 65536)
-      → Counting kinds heads counts args patterns (p + 1) r
-  unfolding patternsFrom
-  counting-next r w h e =
-      record {
-        most = omega arith;
-        small = e .1;
-        counted = rw (add-one p) (e .0 ∙ sym (variables-snoc (patternsFrom kinds heads counts args p) n (getD kinds p 0) (getD heads p 0) (argsAt counts args p) (w .counted)));
-      }
+  module _ (w : Counting patterns m p n) where
+    pub counting-inside : p < m → p < patternCount patterns
+    counting-inside h = omega (arith, w .count)
 
-  pub counting-done : Counting kinds heads counts args patterns p n → patterns ≤ p → n ≡ variables (patternsFrom kinds heads counts args patterns)
-  counting-done w h = let e : p ≡ patterns = omega arith in rw (← e) (w .counted)
+    pub counting-next : (kind head r : ℕ) → p < m → kind ≡ patternKindIn patterns p → head ≡ headIn patterns p → (r ≡ reach n kind head) × (r ≤ mostHeads)
+        → Counting patterns m (p + 1) r
+    unfolding each
+    counting-next kind head r h ek eh e =
+        record {
+          count = w .count;
+          most = omega arith;
+          small = e .1;
+          counted =
+              rw (add-one p)
+              (e .0
+              ∙ rw (ek, eh)
+              (sym (variables-snoc (each (patternIn patterns) p) n (patternKindIn patterns p) (headIn patterns p) (patternArgsIn patterns p) (w .counted))));
+        }
+
+    pub counting-done : m ≤ p → n ≡ variables (patternsOf patterns)
+    unfolding patternsOf
+    counting-done h =
+        let e : p ≡ patternCount patterns = omega (arith, w .count, w .most) in
+        w .counted ∙ ap (λ (z : ℕ). variables (each (patternIn patterns) z)) e
 
 -- ---- an assignment
 
-module _ (a : List ℕ) (long : length a ≡ 4) (rows v : ℕ) where
-  pub assigned-in : (x : ℕ) → x ≡ getD a v 0 → v < 4 → ltb x rows ≡ assignedBy rows a v
+module _ (a : List ℕ) (long : length a ≡ mostVariables) (rows v : ℕ) where
+  pub assigned-in : (x : ℕ) → x ≡ getD a v 0 → v < mostVariables → ltb x rows ≡ assignedBy rows a v
   unfolding assignedBy
   assigned-in x e h = rw (lt-ltb v (length a) (omega arith), e)
 
-  pub assigned-out : 4 ≤ v → false ≡ assignedBy rows a v
+  pub assigned-out : mostVariables ≤ v → false ≡ assignedBy rows a v
   unfolding assignedBy
   assigned-out h = rw (le-ltb v (length a) (omega arith))
 
-pub ruleset mine = (needs, reach-other, reach-higher, reach-lower, counting-start, counting-next, counting-done, assigned-in, assigned-out)
+pub ruleset mine = (needs, reach-other, reach-higher, reach-lower, counting-start, counting-inside, counting-next, counting-done, assigned-in, assigned-out)

@@ -1,3 +1,3 @@
 -- The root of the definitions.
-pub mod Tables
+pub mod Tests
 pub mod Claims

@@ -1,4 +1,5 @@
 // Grounds for a breach, judged: whether the assignment names context rows, each step follows from earlier ones, and each literal is concluded.
+// What is lent has any length; `judge` makes the runs for a context of the length that a text may have.
 mod assignment;
 mod literals;
 mod owners;
@@ -7,25 +8,34 @@ mod steps;
 
 use assignment::first_unassigned;
 use assignment::variables;
+use grounds_numbers::limits::ENTRIES;
+use grounds_numbers::limits::ENTRY_RUN;
+use grounds_numbers::limits::PAIR;
+use grounds_numbers::limits::PAIR_RUN;
+use grounds_numbers::pairs::stated;
+use grounds_numbers::table::fill;
+use grounds_steps::WORDS;
 use literals::first_open;
-use numbering::pairs::stated;
-use numbering::table::Table;
-use numbering::table::fill;
+use runs::limits::LITERALS;
+use runs::limits::ROW;
+use runs::limits::VARIABLES;
+use runs::literal_count;
+use runs::pattern_count;
+use runs::row_count;
 use steps::first_bad;
-use steps::shortest;
 ghost use mathlib.Core.Bool.{true, false};
 ghost use mathlib.Core.Path.{_≡_};
-ghost use Prim.Native.Nat.{_+_, _≤_};
-ghost use lib.ListN.{length};
-ghost use Rattle.meaning.specs.Columns.{rowsFrom, statementsFrom, patternsFrom, literalsFrom, contextFrom, clauseFrom};
-ghost use Rattle.meaning.specs.Grounds.{Verified};
-ghost use Rattle.meaning.specs.Checking.{entries, numbered, followsBy, Ends};
-ghost use Rattle.meaning.specs.GroundColumns.{stepsFrom, sidesOf, conclusionsFrom};
-ghost use Rattle.numbering.specs.Keys.{Keyed};
-ghost use Rattle.numbering.specs.Pairs.{pairsOf};
-ghost use Rattle.verifier.specs.Tables.{concludedWords};
-ghost use Rattle.numbering.specs.Entries.{Filled};
-ghost use Rattle.verifier.specs.Claims.{WellFormed, Chosen, Long, verdictOf};
+ghost use Prim.Native.Nat.{_*_, _≤_};
+ghost use lib.ListN.{length, replicate};
+ghost use Rattle.meaning.specs.Checking.{Ends};
+ghost use Rattle.runs.specs.Limits.{mostRows, mostStatements, mostLiterals};
+ghost use Rattle.runs.specs.Fit.{FitContext, FitClause};
+ghost use Rattle.runs.specs.Runs.{saidCount, literalCount};
+ghost use Rattle.grounds_numbers.specs.Limits.{pairSize, entryRun, mostEntries, pairRun};
+ghost use Rattle.grounds_numbers.specs.Keys.{Keyed};
+ghost use Rattle.grounds_numbers.specs.Entries.{entriesOf, entryCount, Room, Filled};
+ghost use Rattle.verifier.specs.Tests.{followsWith, concludedWith};
+ghost use Rattle.verifier.specs.Claims.{WellFormed, Chosen, Judged};
 
 // Steps and literals are counted from 1, and variables from 0.
 pub enum Answer {
@@ -37,304 +47,189 @@ pub enum Answer {
 
 // A place for each literal; an absent conclusion cites step 0.
 pub struct Conclusions {
-    pub firsts: [u32; 16],
-    pub differences: [u16; 16],
-}
-
-// How many places for arguments there are.
-fn places<'a>(args: &'a [u16; 1020], subs: &'a [u16; 256]) -> usize
-    ensures { λ r. ⌜ (r ≡ 1276) × Long (now (args .entry)) (now (subs .entry)) ⌝ }
-{
-    let rows: &'a [u16] = args;
-    let patterns: &'a [u16] = subs;
-    rows.len() + patterns.len()
+    pub firsts: [u32; LITERALS],
+    pub differences: [u16; LITERALS],
 }
 
 // The first bad step, or how many steps there are.
-fn bad_step<'a>(
-    kinds: &'a [u8; 510],
-    lefts: &'a [u16; 510],
-    rights: &'a [u16; 510],
-    statements: usize,
-    t: Table,
-    rows: usize,
-    patterns: usize,
-    signs: &'a [u8; 16],
-    ls: &'a [u16; 16],
-    rs: &'a [u16; 16],
-    literals: usize,
-    firsts: &'a [u64],
-    seconds: &'a [u64],
-    thirds: &'a [u64],
+fn bad_step(
+    said: &[u16],
+    literals: &[u16],
+    keys: &[u16],
+    numbers: &[u16],
+    n: usize,
+    steps: &[[u64; WORDS]],
+    pairs: &mut [u16],
 ) -> usize
-    requires { ⌜ statements ≤ 510 ⌝ }
-    requires { ⌜ rows + patterns ≤ 319 ⌝ }
-    requires { ⌜ literals ≤ 16 ⌝ }
-    requires { ⌜ Keyed (t .counts) (t .args) (rows + patterns) ⌝ }
-    ensures { λ i. ⌜ Ends (followsBy (t .numbers) rows patterns (rowsFrom (t .symbols) (t .counts) (t .args) (rows + patterns)) (numbered (t .numbers) (pairsOf true (statementsFrom (now (kinds .entry)) (now (lefts .entry)) (now (rights .entry)) statements))) (literalsFrom (now (signs .entry)) (now (ls .entry)) (now (rs .entry)) literals) (stepsFrom (now (firsts .entry)) (now (seconds .entry)) (now (thirds .entry)))) (length (stepsFrom (now (firsts .entry)) (now (seconds .entry)) (now (thirds .entry)))) i ⌝ }
+    requires { ⌜ n ≤ length (now numbers) ⌝ }
+    requires { ⌜ Keyed (now keys) (length (now numbers)) ⌝ }
+    requires { ⌜ saidCount (now said) * pairSize ≤ length (now pairs) ⌝ }
+    ensures { λ i. ⌜ Ends (followsWith (now (said .entry)) (now (literals .entry)) (now (keys .entry)) (now (numbers .entry)) n (now (steps .entry))) (length (now (steps .entry))) i ⌝ }
 {
-    let p = stated(kinds, lefts, rights, statements, &t.numbers, true);
-    first_bad(
-        &t.symbols,
-        &t.counts,
-        &t.args,
-        &p.lefts,
-        &p.rights,
-        p.count,
-        signs,
-        ls,
-        rs,
-        literals,
-        &t.numbers,
-        rows,
-        patterns,
-        firsts,
-        seconds,
-        thirds,
-    )
+    let m = stated(said, numbers, true, pairs) * PAIR;
+    first_bad(keys, &pairs[..m], literals, numbers, n, steps)
 }
 
-// The first literal that the first so many steps do not conclude, or how many literals there are.
-fn open_literal<'a>(
-    kinds: &'a [u8; 510],
-    lefts: &'a [u16; 510],
-    rights: &'a [u16; 510],
-    statements: usize,
-    numbers: &'a [u16; 319],
-    rows: usize,
-    patterns: usize,
-    signs: &'a [u8; 16],
-    ls: &'a [u16; 16],
-    rs: &'a [u16; 16],
-    literals: usize,
-    words: &'a [u64],
-    limit: usize,
+// The first literal that the steps do not conclude, or how many literals there are.
+fn open_literal(
+    said: &[u16],
+    literals: &[u16],
+    numbers: &[u16],
+    n: usize,
+    steps: &[[u64; WORDS]],
     d: Conclusions,
+    pairs: &mut [u16],
 ) -> usize
-    requires { ⌜ statements ≤ 510 ⌝ }
-    requires { ⌜ rows + patterns ≤ 319 ⌝ }
-    requires { ⌜ literals ≤ 16 ⌝ }
-    requires { ⌜ limit ≤ length (now words) ⌝ }
-    ensures { λ j. ⌜ Ends (concludedWords (now (numbers .entry)) rows patterns (numbered (now (numbers .entry)) (pairsOf false (statementsFrom (now (kinds .entry)) (now (lefts .entry)) (now (rights .entry)) statements))) (sidesOf (now (words .entry))) limit (d .firsts) (d .differences) (now (signs .entry)) (now (ls .entry)) (now (rs .entry))) literals j ⌝ }
+    requires { ⌜ n ≤ length (now numbers) ⌝ }
+    requires { ⌜ literalCount (now literals) ≤ mostLiterals ⌝ }
+    requires { ⌜ saidCount (now said) * pairSize ≤ length (now pairs) ⌝ }
+    ensures { λ j. ⌜ Ends (concludedWith (now (said .entry)) (now (literals .entry)) (now (numbers .entry)) n (now (steps .entry)) d) (literalCount (now (literals .entry))) j ⌝ }
 {
-    let p = stated(kinds, lefts, rights, statements, numbers, false);
-    first_open(
-        signs,
-        ls,
-        rs,
-        literals,
-        &d.firsts,
-        &d.differences,
-        &p.lefts,
-        &p.rights,
-        p.count,
-        words,
-        limit,
-        numbers,
-        rows,
-        patterns,
-    )
+    let m = stated(said, numbers, false, pairs) * PAIR;
+    first_open(literals, d, &pairs[..m], steps, numbers, n)
 }
 
-// The answer by a table of all entries.
-fn judge_by<'a>(
-    symbols: &'a [u16; 255],
-    counts: &'a [u8; 255],
-    args: &'a [u16; 1020],
-    rows: usize,
-    kinds: &'a [u8; 510],
-    lefts: &'a [u16; 510],
-    rights: &'a [u16; 510],
-    statements: usize,
-    shapes: &'a [u8; 64],
-    heads: &'a [u16; 64],
-    arities: &'a [u8; 64],
-    subs: &'a [u16; 256],
-    patterns: usize,
-    signs: &'a [u8; 16],
-    ls: &'a [u16; 16],
-    rs: &'a [u16; 16],
-    literals: usize,
-    asg: [u16; 4],
-    firsts: &'a [u64],
-    seconds: &'a [u64],
-    thirds: &'a [u64],
+// The answer by the keys and the numbers of all entries.
+fn judge_by(
+    rows: &[u16],
+    said: &[u16],
+    patterns: &[u16],
+    literals: &[u16],
+    asg: [u16; VARIABLES],
+    steps: &[[u64; WORDS]],
     d: Conclusions,
-    t: Table,
+    keys: &[u16],
+    numbers: &[u16],
+    pairs: &mut [u16],
 ) -> Answer
-    requires { ⌜ WellFormed (now symbols) (now counts) (now args) rows (now kinds) (now lefts) (now rights) statements (now shapes) (now heads) (now arities) (now subs) patterns (now signs) (now ls) (now rs) literals ⌝ }
-    requires { ⌜ Chosen rows (now shapes) (now heads) (now arities) (now subs) patterns asg ⌝ }
-    requires { ⌜ Filled (entries (rowsFrom (now symbols) (now counts) (now args) rows) asg (patternsFrom (now shapes) (now heads) (now arities) (now subs) patterns)) t (rows + patterns) ⌝ }
-    ensures { λ r. ⌜ Verified (contextFrom (now (symbols .entry)) (now (counts .entry)) (now (args .entry)) rows (now (kinds .entry)) (now (lefts .entry)) (now (rights .entry)) statements) (clauseFrom (now (shapes .entry)) (now (heads .entry)) (now (arities .entry)) (now (subs .entry)) patterns (now (signs .entry)) (now (ls .entry)) (now (rs .entry)) literals) asg (stepsFrom (now (firsts .entry)) (now (seconds .entry)) (now (thirds .entry))) (conclusionsFrom (d .firsts) (d .differences) 16) (verdictOf r) ⌝ }
+    requires { ⌜ WellFormed (now rows) (now said) (now patterns) (now literals) ⌝ }
+    requires { ⌜ Chosen (now rows) (now patterns) asg ⌝ }
+    requires { ⌜ Filled (entriesOf (now rows) asg (now patterns)) (now keys) (now numbers) (entryCount (now rows) (now patterns)) ⌝ }
+    requires { ⌜ saidCount (now said) * pairSize ≤ length (now pairs) ⌝ }
+    ensures { λ r. ⌜ Judged (now (rows .entry)) (now (said .entry)) (now (patterns .entry)) (now (literals .entry)) asg (now (steps .entry)) d r ⌝ }
 {
-    let i = bad_step(
-        kinds,
-        lefts,
-        rights,
-        statements,
-        t,
-        rows,
-        patterns,
-        signs,
-        ls,
-        rs,
-        literals,
-        firsts,
-        seconds,
-        thirds,
-    );
-    let n = shortest(firsts, seconds, thirds);
-    if i < n {
+    let n = row_count(rows);
+    let i = bad_step(said, literals, keys, numbers, n, steps, pairs);
+    if i < steps.len() {
         return Answer::Bad(i + 1);
     }
-    let j = open_literal(
-        kinds,
-        lefts,
-        rights,
-        statements,
-        &t.numbers,
-        rows,
-        patterns,
-        signs,
-        ls,
-        rs,
-        literals,
-        firsts,
-        n,
-        d,
-    );
-    if j < literals {
+    let j = open_literal(said, literals, numbers, n, steps, d, pairs);
+    if j < literal_count(literals) {
         return Answer::Unconcluded(j + 1);
     }
     Answer::Accepted
 }
 
-// The answer where each variable has a context row.
-fn judge_steps<'a>(
-    symbols: &'a [u16; 255],
-    counts: &'a [u8; 255],
-    args: &'a [u16; 1020],
-    rows: usize,
-    kinds: &'a [u8; 510],
-    lefts: &'a [u16; 510],
-    rights: &'a [u16; 510],
-    statements: usize,
-    shapes: &'a [u8; 64],
-    heads: &'a [u16; 64],
-    arities: &'a [u8; 64],
-    subs: &'a [u16; 256],
-    patterns: usize,
-    signs: &'a [u8; 16],
-    ls: &'a [u16; 16],
-    rs: &'a [u16; 16],
-    literals: usize,
-    asg: [u16; 4],
-    firsts: &'a [u64],
-    seconds: &'a [u64],
-    thirds: &'a [u64],
+// The answer where each variable has a context row. The keys and the numbers are filled here.
+fn judge_in(
+    rows: &[u16],
+    said: &[u16],
+    patterns: &[u16],
+    literals: &[u16],
+    asg: [u16; VARIABLES],
+    steps: &[[u64; WORDS]],
     d: Conclusions,
+    keys: &mut [u16],
+    numbers: &mut [u16],
+    pairs: &mut [u16],
 ) -> Answer
-    requires { ⌜ WellFormed (now symbols) (now counts) (now args) rows (now kinds) (now lefts) (now rights) statements (now shapes) (now heads) (now arities) (now subs) patterns (now signs) (now ls) (now rs) literals ⌝ }
-    requires { ⌜ Chosen rows (now shapes) (now heads) (now arities) (now subs) patterns asg ⌝ }
-    requires { ⌜ Long (now args) (now subs) ⌝ }
-    ensures { λ r. ⌜ Verified (contextFrom (now (symbols .entry)) (now (counts .entry)) (now (args .entry)) rows (now (kinds .entry)) (now (lefts .entry)) (now (rights .entry)) statements) (clauseFrom (now (shapes .entry)) (now (heads .entry)) (now (arities .entry)) (now (subs .entry)) patterns (now (signs .entry)) (now (ls .entry)) (now (rs .entry)) literals) asg (stepsFrom (now (firsts .entry)) (now (seconds .entry)) (now (thirds .entry))) (conclusionsFrom (d .firsts) (d .differences) 16) (verdictOf r) ⌝ }
+    requires { ⌜ WellFormed (now rows) (now said) (now patterns) (now literals) ⌝ }
+    requires { ⌜ Chosen (now rows) (now patterns) asg ⌝ }
+    requires { ⌜ Room (now rows) (now patterns) (now keys) (now numbers) ⌝ }
+    requires { ⌜ saidCount (now said) * pairSize ≤ length (now pairs) ⌝ }
+    ensures { λ r. ⌜ Judged (now (rows .entry)) (now (said .entry)) (now (patterns .entry)) (now (literals .entry)) asg (now (steps .entry)) d r ⌝ }
 {
-    let t = fill(
-        symbols,
-        counts,
-        args,
-        rows,
-        shapes,
-        heads,
-        arities,
-        subs,
-        patterns,
-        asg,
-    );
+    fill(rows, patterns, asg, keys, numbers);
     judge_by(
-        symbols,
-        counts,
-        args,
         rows,
-        kinds,
-        lefts,
-        rights,
-        statements,
-        shapes,
-        heads,
-        arities,
-        subs,
+        said,
         patterns,
-        signs,
-        ls,
-        rs,
         literals,
         asg,
-        firsts,
-        seconds,
-        thirds,
+        steps,
         d,
-        t,
+        keys,
+        numbers,
+        pairs,
+    )
+}
+
+fn no_keys() -> [u16; ENTRY_RUN]
+    ensures { λ r. ⌜ r ≡ replicate entryRun 0 ⌝ }
+{
+    [0; ENTRY_RUN]
+}
+
+fn no_numbers() -> [u16; ENTRIES]
+    ensures { λ r. ⌜ r ≡ replicate mostEntries 0 ⌝ }
+{
+    [0; ENTRIES]
+}
+
+fn no_pairs() -> [u16; PAIR_RUN]
+    ensures { λ r. ⌜ r ≡ replicate pairRun 0 ⌝ }
+{
+    [0; PAIR_RUN]
+}
+
+fn entry_count(rows: &[u16], patterns: &[u16]) -> usize
+    ensures { λ r. ⌜ r ≡ entryCount (now (rows .entry)) (now (patterns .entry)) ⌝ }
+{
+    row_count(rows) + pattern_count(patterns)
+}
+
+// The same in runs that are made here.
+fn judge_steps(
+    rows: &[u16],
+    said: &[u16],
+    patterns: &[u16],
+    literals: &[u16],
+    asg: [u16; VARIABLES],
+    steps: &[[u64; WORDS]],
+    d: Conclusions,
+) -> Answer
+    requires { ⌜ FitContext mostRows mostStatements (now rows) (now said) ⌝ }
+    requires { ⌜ FitClause (now patterns) (now literals) ⌝ }
+    requires { ⌜ Chosen (now rows) (now patterns) asg ⌝ }
+    ensures { λ r. ⌜ Judged (now (rows .entry)) (now (said .entry)) (now (patterns .entry)) (now (literals .entry)) asg (now (steps .entry)) d r ⌝ }
+{
+    let mut keys = no_keys();
+    let mut numbers = no_numbers();
+    let mut pairs = no_pairs();
+    let n = entry_count(rows, patterns);
+    let m = n * ROW;
+    judge_in(
+        rows,
+        said,
+        patterns,
+        literals,
+        asg,
+        steps,
+        d,
+        &mut keys[..m],
+        &mut numbers[..n],
+        &mut pairs,
     )
 }
 
 // The first variable without a context row, else the first bad step, else the first literal not concluded; else the grounds are accepted.
-pub fn judge<'a>(
-    symbols: &'a [u16; 255],
-    counts: &'a [u8; 255],
-    args: &'a [u16; 1020],
-    rows: usize,
-    kinds: &'a [u8; 510],
-    lefts: &'a [u16; 510],
-    rights: &'a [u16; 510],
-    statements: usize,
-    shapes: &'a [u8; 64],
-    heads: &'a [u16; 64],
-    arities: &'a [u8; 64],
-    subs: &'a [u16; 256],
-    patterns: usize,
-    signs: &'a [u8; 16],
-    ls: &'a [u16; 16],
-    rs: &'a [u16; 16],
-    literals: usize,
-    asg: [u16; 4],
-    firsts: &'a [u64],
-    seconds: &'a [u64],
-    thirds: &'a [u64],
+pub fn judge(
+    rows: &[u16],
+    said: &[u16],
+    patterns: &[u16],
+    literals: &[u16],
+    asg: [u16; VARIABLES],
+    steps: &[[u64; WORDS]],
     d: Conclusions,
 ) -> Answer
-    requires { ⌜ WellFormed (now symbols) (now counts) (now args) rows (now kinds) (now lefts) (now rights) statements (now shapes) (now heads) (now arities) (now subs) patterns (now signs) (now ls) (now rs) literals ⌝ }
-    ensures { λ r. ⌜ Verified (contextFrom (now (symbols .entry)) (now (counts .entry)) (now (args .entry)) rows (now (kinds .entry)) (now (lefts .entry)) (now (rights .entry)) statements) (clauseFrom (now (shapes .entry)) (now (heads .entry)) (now (arities .entry)) (now (subs .entry)) patterns (now (signs .entry)) (now (ls .entry)) (now (rs .entry)) literals) asg (stepsFrom (now (firsts .entry)) (now (seconds .entry)) (now (thirds .entry))) (conclusionsFrom (d .firsts) (d .differences) 16) (verdictOf r) ⌝ }
+    requires { ⌜ FitContext mostRows mostStatements (now rows) (now said) ⌝ }
+    requires { ⌜ FitClause (now patterns) (now literals) ⌝ }
+    ensures { λ r. ⌜ Judged (now (rows .entry)) (now (said .entry)) (now (patterns .entry)) (now (literals .entry)) asg (now (steps .entry)) d r ⌝ }
 {
-    let n = variables(shapes, heads, arities, subs, patterns);
-    let v = first_unassigned(asg, rows, n);
+    let n = variables(patterns);
+    let v = first_unassigned(asg, row_count(rows), n);
     if v < n {
         return Answer::Unassigned(v);
     }
-    // There are four places for the arguments of each row and of each pattern row.
-    places(args, subs);
-    judge_steps(
-        symbols,
-        counts,
-        args,
-        rows,
-        kinds,
-        lefts,
-        rights,
-        statements,
-        shapes,
-        heads,
-        arities,
-        subs,
-        patterns,
-        signs,
-        ls,
-        rs,
-        literals,
-        asg,
-        firsts,
-        seconds,
-        thirds,
-        d,
-    )
+    judge_steps(rows, said, patterns, literals, asg, steps, d)
 }

@@ -1,55 +1,57 @@
 // The owners of steps: all literals together, or one unequal literal, which adds its equation.
 use super::sides::instance_number;
+use runs::left_in;
+use runs::literal_count;
+use runs::right_in;
+use runs::sign_in;
 ghost use mathlib.Core.Path.{_≡_};
 ghost use Prim.Native.Nat.{_≤_};
-ghost use Rattle.verifier.specs.Tables.{ownerWords, addedWords};
+ghost use lib.ListN.{length};
+ghost use Rattle.meaning.specs.Checking.{ownerBy};
+ghost use Rattle.runs.specs.Runs.{literalsOf};
+ghost use Rattle.verifier.specs.Tests.{addedAt};
 
 // Whether an owner is 0, or the number of an unequal literal.
-pub(crate) fn owner_there(signs: &[u8; 16], literals: usize, owner: u64) -> bool
-    requires { ⌜ literals ≤ 16 ⌝ }
-    ensures { λ b. ⌜ b ≡ ownerWords (now (signs .entry)) literals owner ⌝ }
+pub(crate) fn owner_there(literals: &[u16], owner: u64) -> bool
+    ensures { λ b. ⌜ b ≡ ownerBy (literalsOf (now (literals .entry))) owner ⌝ }
 {
     if owner == 0 {
         return true;
     }
     let place = (owner - 1) as usize;
-    if literals <= place {
+    if literal_count(literals) <= place {
         return false;
     }
-    if signs[place] == 6 {
+    if sign_in(literals, place) == 6 {
         return false;
     }
     true
 }
 
 // Whether the owner is an unequal literal, and its instances are l and r.
-pub(crate) fn added<'a>(
-    signs: &'a [u8; 16],
-    ls: &'a [u16; 16],
-    rs: &'a [u16; 16],
-    literals: usize,
-    numbers: &'a [u16; 319],
-    rows: usize,
+pub(crate) fn added(
+    literals: &[u16],
+    numbers: &[u16],
+    n: usize,
     owner: u64,
     l: usize,
     r: usize,
 ) -> bool
-    requires { ⌜ literals ≤ 16 ⌝ }
-    requires { ⌜ rows ≤ 319 ⌝ }
-    ensures { λ b. ⌜ b ≡ addedWords (now (numbers .entry)) rows (now (signs .entry)) (now (ls .entry)) (now (rs .entry)) literals owner l r ⌝ }
+    requires { ⌜ n ≤ length (now numbers) ⌝ }
+    ensures { λ b. ⌜ b ≡ addedAt (now (literals .entry)) (now (numbers .entry)) n owner l r ⌝ }
 {
     if owner == 0 {
         return false;
     }
     let place = (owner - 1) as usize;
-    if literals <= place {
+    if literal_count(literals) <= place {
         return false;
     }
-    if signs[place] == 6 {
+    if sign_in(literals, place) == 6 {
         return false;
     }
-    if instance_number(numbers, rows, ls[place]) != l {
+    if instance_number(numbers, n, left_in(literals, place)) != l {
         return false;
     }
-    instance_number(numbers, rows, rs[place]) == r
+    instance_number(numbers, n, right_in(literals, place)) == r
 }

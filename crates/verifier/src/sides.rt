@@ -1,76 +1,108 @@
-// The numbers of what the references of steps stand for, and the steps that an owner may cite.
-use numbering::numbers::number_of;
+// The fields of a step's words, the numbers of what its references stand for, and the steps that an owner may cite.
+use casts::usize_of_u16;
+use grounds_numbers::numbers::number_after;
+use grounds_steps::WORDS;
+use grounds_steps::lower_in;
+use grounds_steps::sides_in;
+use grounds_steps::upper_in;
 ghost use mathlib.Core.Bool.{_||_};
 ghost use mathlib.Core.Path.{_≡_};
-ghost use Prim.Native.Nat.{_+_, _≤_};
+ghost use Prim.Native.Nat.{_+_, _≤_, _<_};
 ghost use lib.Dec.{eqb};
-ghost use lib.ListN.{length};
+ghost use lib.ListN.{length, getD};
 ghost use Rattle.meaning.specs.Values.{numberAt};
-ghost use Rattle.meaning.specs.Checking.{numberBelow, sideOf, citedBy};
-ghost use Rattle.meaning.specs.GroundColumns.{ownerOf, leftRef, rightRef, sidesOf};
+ghost use Rattle.meaning.specs.Checking.{numberBelow, sideOf};
+ghost use Rattle.meaning.specs.GroundColumns.{ownerOf, kindIn, leftRef, rightRef};
+ghost use Rattle.verifier.specs.Tests.{instancesIn, numbersAt, citedAt};
 
-pub(crate) fn wide(x: u16) -> usize
-    ensures { λ r. ⌜ r ≡ x ⌝ }
+pub(crate) fn owner_of(word: u64) -> u64
+    ensures { λ r. ⌜ r ≡ ownerOf word ⌝ }
 {
-    x as usize
+    word / 72057594037927936
 }
 
-// The number of a pattern row's instance.
-pub(crate) fn instance_number(numbers: &[u16; 319], rows: usize, p: u16) -> usize
-    requires { ⌜ rows ≤ 319 ⌝ }
-    ensures { λ r. ⌜ r ≡ numberAt (now (numbers .entry)) (rows + p) ⌝ }
+pub(crate) fn kind_of(word: u64) -> u64
+    ensures { λ r. ⌜ r ≡ kindIn word ⌝ }
 {
-    wide(number_of(numbers, rows + wide(p)))
+    (word / 281474976710656) % 256
 }
 
-// The number of a row below a limit, after an offset.
-fn number_below(numbers: &[u16; 319], none: usize, limit: usize, offset: usize, row: usize) -> usize
-    requires { ⌜ offset + limit ≤ 319 ⌝ }
-    ensures { λ r. ⌜ r ≡ numberBelow (now (numbers .entry)) none limit offset row ⌝ }
+// Number k, from 0, of the four of step i.
+pub(crate) fn number_at(steps: &[[u64; WORDS]], i: usize, k: usize) -> u64
+    requires { ⌜ i < length (now steps) ⌝ }
+    ensures { λ x. ⌜ x ≡ getD (numbersAt (now (steps .entry)) i) k 0 ⌝ }
+{
+    if k == 0 {
+        return upper_in(steps, i) / 4294967296;
+    }
+    if k == 1 {
+        return upper_in(steps, i) % 4294967296;
+    }
+    if k == 2 {
+        return lower_in(steps, i) / 4294967296;
+    }
+    if k == 3 {
+        return lower_in(steps, i) % 4294967296;
+    }
+    0
+}
+
+// The number of a pattern row's instance, after n context rows.
+pub(crate) fn instance_number(numbers: &[u16], n: usize, p: usize) -> usize
+    requires { ⌜ n ≤ length (now numbers) ⌝ }
+    ensures { λ r. ⌜ r ≡ numberAt (now (numbers .entry)) (n + p) ⌝ }
+{
+    usize_of_u16(number_after(numbers, n, p))
+}
+
+// The number of a row below a limit, after an offset, or the number of entries.
+fn number_below(numbers: &[u16], limit: usize, offset: usize, row: usize) -> usize
+    requires { ⌜ offset + limit ≤ length (now numbers) ⌝ }
+    ensures { λ r. ⌜ r ≡ numberBelow (now (numbers .entry)) (length (now (numbers .entry))) limit offset row ⌝ }
 {
     if row < limit {
-        wide(numbers[offset + row])
+        usize_of_u16(numbers[offset + row])
     } else {
-        none
+        numbers.len()
     }
 }
 
-// The number of what a reference stands for, or the number of entries.
-fn side(numbers: &[u16; 319], rows: usize, patterns: usize, mark: u64, row: usize) -> usize
-    requires { ⌜ rows + patterns ≤ 319 ⌝ }
-    ensures { λ r. ⌜ r ≡ sideOf (now (numbers .entry)) rows patterns (record { mark = mark; row = row }) ⌝ }
+// The number of what a reference stands for, or the number of entries. The first n entries are context rows.
+fn side(numbers: &[u16], n: usize, mark: u64, row: usize) -> usize
+    requires { ⌜ n ≤ length (now numbers) ⌝ }
+    ensures { λ r. ⌜ r ≡ sideOf (now (numbers .entry)) n (instancesIn (now (numbers .entry)) n) (record { mark = mark; row = row }) ⌝ }
 {
-    let none = rows + patterns;
+    let none = numbers.len();
     if mark == 0 {
-        return number_below(numbers, none, rows, 0, row);
+        return number_below(numbers, n, 0, row);
     }
     if mark == 1 {
-        return number_below(numbers, none, patterns, rows, row);
+        return number_below(numbers, none - n, n, row);
     }
     none
 }
 
-pub(crate) fn left_side(numbers: &[u16; 319], rows: usize, patterns: usize, word: u64) -> usize
-    requires { ⌜ rows + patterns ≤ 319 ⌝ }
-    ensures { λ r. ⌜ r ≡ sideOf (now (numbers .entry)) rows patterns (leftRef word) ⌝ }
+pub(crate) fn left_side(numbers: &[u16], n: usize, word: u64) -> usize
+    requires { ⌜ n ≤ length (now numbers) ⌝ }
+    ensures { λ r. ⌜ r ≡ sideOf (now (numbers .entry)) n (instancesIn (now (numbers .entry)) n) (leftRef word) ⌝ }
 {
     let row = ((word / 16777216) % 65536) as usize;
-    side(numbers, rows, patterns, (word / 1099511627776) % 256, row)
+    side(numbers, n, (word / 1099511627776) % 256, row)
 }
 
-pub(crate) fn right_side(numbers: &[u16; 319], rows: usize, patterns: usize, word: u64) -> usize
-    requires { ⌜ rows + patterns ≤ 319 ⌝ }
-    ensures { λ r. ⌜ r ≡ sideOf (now (numbers .entry)) rows patterns (rightRef word) ⌝ }
+pub(crate) fn right_side(numbers: &[u16], n: usize, word: u64) -> usize
+    requires { ⌜ n ≤ length (now numbers) ⌝ }
+    ensures { λ r. ⌜ r ≡ sideOf (now (numbers .entry)) n (instancesIn (now (numbers .entry)) n) (rightRef word) ⌝ }
 {
     let row = (word % 65536) as usize;
-    side(numbers, rows, patterns, (word / 65536) % 256, row)
+    side(numbers, n, (word / 65536) % 256, row)
 }
 
 // Whether a step is shared or the owner's.
 fn usable(word: u64, owner: u64) -> bool
     ensures { λ b. ⌜ b ≡ (eqb (ownerOf word) 0 || eqb (ownerOf word) owner) ⌝ }
 {
-    let o = word / 72057594037927936;
+    let o = owner_of(word);
     if o == 0 {
         return true;
     }
@@ -78,20 +110,19 @@ fn usable(word: u64, owner: u64) -> bool
 }
 
 // Whether step x, of the first so many, may be used by an owner and has the sides l and r.
-pub(crate) fn cited<'a>(
-    words: &'a [u64],
+pub(crate) fn cited(
+    steps: &[[u64; WORDS]],
     limit: usize,
     owner: u64,
-    numbers: &'a [u16; 319],
-    rows: usize,
-    patterns: usize,
+    numbers: &[u16],
+    n: usize,
     x: u64,
     l: usize,
     r: usize,
 ) -> bool
-    requires { ⌜ rows + patterns ≤ 319 ⌝ }
-    requires { ⌜ limit ≤ length (now words) ⌝ }
-    ensures { λ b. ⌜ b ≡ citedBy (now (numbers .entry)) rows patterns (sidesOf (now (words .entry))) limit owner x l r ⌝ }
+    requires { ⌜ n ≤ length (now numbers) ⌝ }
+    requires { ⌜ limit ≤ length (now steps) ⌝ }
+    ensures { λ b. ⌜ b ≡ citedAt (now (numbers .entry)) n (now (steps .entry)) limit owner x l r ⌝ }
 {
     if x == 0 {
         return false;
@@ -100,12 +131,12 @@ pub(crate) fn cited<'a>(
     if limit <= place {
         return false;
     }
-    let word = words[place];
+    let word = sides_in(steps, place);
     if !usable(word, owner) {
         return false;
     }
-    if left_side(numbers, rows, patterns, word) != l {
+    if left_side(numbers, n, word) != l {
         return false;
     }
-    right_side(numbers, rows, patterns, word) == r
+    right_side(numbers, n, word) == r
 }

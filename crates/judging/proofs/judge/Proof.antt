@@ -1,11 +1,11 @@
--- `judging::judge` meets its contract. A text is refused as it is ruled on; the columns of one that is ready are well-formed.
+-- `judging::judge` meets its contract. A text is refused as it is ruled on; the filled parts of the runs of one that is ready are well-formed.
 -- Assumes nothing.
 use Rattle.judging.proofs.Judging.{mine}
 use Rattle.judging.proofs.judge.Statement.{statement}
 use Rattle.judging.proofs.judge.Tie as tie
 
-prepare-requires : tie.Need-prepare-requires
-prepare-requires c κs = search mine
+rule-requires : tie.Need-rule-requires
+rule-requires c κs = search mine
 
 enum-known-answer : tie.Need-enum-known-answer
 enum-known-answer c = search mine
@@ -24,4 +24,5 @@ returns-2 c = search mine
 
 pub judge-spec : {M : Type 1} → statement M
 judge-spec =
-    tie.close (tie.spec prepare-requires enum-known-answer returns enum-told verdict-requires returns-2)
+    tie.close
+    (tie.spec rule-requires enum-known-answer returns enum-told verdict-requires returns-2)

@@ -7,14 +7,14 @@ use Rattle.verifier.proofs.judge.Tie as tie
 variables-requires : tie.Need-variables-requires
 variables-requires c κs = search mine
 
+row-count-requires : tie.Need-row-count-requires
+row-count-requires c κs = search mine
+
 first-unassigned-requires : tie.Need-first-unassigned-requires
 first-unassigned-requires c κs = search mine
 
 returns : tie.Need-returns
 returns c = search mine
-
-places-requires : tie.Need-places-requires
-places-requires c κs = search mine
 
 judge-steps-requires : tie.Need-judge-steps-requires
 judge-steps-requires c κs = (search mine, (search mine, search mine))
@@ -27,8 +27,8 @@ judge-spec =
     tie.close
     (tie.spec
     variables-requires
+    row-count-requires
     first-unassigned-requires
     returns
-    places-requires
     judge-steps-requires
     returns-2)

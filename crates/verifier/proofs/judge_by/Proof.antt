@@ -1,30 +1,41 @@
 -- `verifier::judge_by` meets its contract. Each way out is one case of the verdict, by the filled table.
 -- Assumes nothing.
-use borrow.Author.Needs.{needs}
-use Rattle.verifier.proofs.Judging.{mine, inside-steps}
+use Rattle.verifier.proofs.Judging.{mine}
 use Rattle.verifier.proofs.judge_by.Statement.{statement}
 use Rattle.verifier.proofs.judge_by.Tie as tie
 
+row-count-requires : tie.Need-row-count-requires
+row-count-requires c κs = search mine
+
 bad-step-requires : tie.Need-bad-step-requires
-bad-step-requires c κs = (search mine, (search mine, (search mine, search mine)))
+bad-step-requires c κs = (search mine, (search mine, search mine))
 
-shortest-requires : tie.Need-shortest-requires
-shortest-requires c κs = search needs
+add-t18 : tie.Need-add-t18
+add-t18 c = search mine
 
-add-t30 : tie.Need-add-t30
-add-t30 c = search needs
+same-length : tie.Need-same-length
+same-length c = search mine
 
 returns : tie.Need-returns
 returns c = search mine
 
 open-literal-requires : tie.Need-open-literal-requires
-open-literal-requires c κs = (search mine, (search mine, (search mine, inside-steps _ _ _ _ (c .before .before .before .shortest .ensures))))
+open-literal-requires c κs = (search mine, (search mine, search mine))
 
-add-t32 : tie.Need-add-t32
-add-t32 c = search needs
+literal-count-requires : tie.Need-literal-count-requires
+literal-count-requires c κs = search mine
+
+add-t21 : tie.Need-add-t21
+add-t21 c = search mine
+
+same-length-2 : tie.Need-same-length-2
+same-length-2 c = search mine
 
 returns-2 : tie.Need-returns-2
 returns-2 c = search mine
+
+same-length-3 : tie.Need-same-length-3
+same-length-3 c = search mine
 
 returns-3 : tie.Need-returns-3
 returns-3 c = search mine
@@ -33,11 +44,15 @@ pub judge-by-spec : {M : Type 1} → statement M
 judge-by-spec =
     tie.close
     (tie.spec
+    row-count-requires
     bad-step-requires
-    shortest-requires
-    add-t30
+    add-t18
+    same-length
     returns
     open-literal-requires
-    add-t32
+    literal-count-requires
+    add-t21
+    same-length-2
     returns-2
+    same-length-3
     returns-3)

@@ -1,4 +1,4 @@
--- `verifier::open_literal` meets its contract. The numbers of the stated differences stand in columns, and the literals are judged by them.
+-- `verifier::open_literal` meets its contract. The numbers of the stated differences stand in a run, and the literals are judged by them.
 -- Assumes nothing.
 use Rattle.verifier.proofs.Judging.{mine}
 use Rattle.verifier.proofs.open_literal.Statement.{statement}
@@ -7,11 +7,32 @@ use Rattle.verifier.proofs.open_literal.Tie as tie
 stated-requires : tie.Need-stated-requires
 stated-requires c κs = search mine
 
+mul-m : tie.Need-mul-m
+mul-m c = search mine
+
+slice-reshare-prefix-first-open : tie.Need-slice-reshare-prefix-first-open
+slice-reshare-prefix-first-open c = search mine
+
+slice-aggregate-first-open : tie.Need-slice-aggregate-first-open
+slice-aggregate-first-open c = search mine
+
 first-open-requires : tie.Need-first-open-requires
 first-open-requires c κs = search mine
+
+same-length : tie.Need-same-length
+same-length c = search mine
 
 returns : tie.Need-returns
 returns c = search mine
 
 pub open-literal-spec : {M : Type 1} → statement M
-open-literal-spec = tie.close (tie.spec stated-requires first-open-requires returns)
+open-literal-spec =
+    tie.close
+    (tie.spec
+    stated-requires
+    mul-m
+    slice-reshare-prefix-first-open
+    slice-aggregate-first-open
+    first-open-requires
+    same-length
+    returns)

@@ -1,18 +1,17 @@
 -- `verifier::assignment::assigned` meets its contract. A place past the four has no row.
 -- Assumes nothing.
-use borrow.Author.Needs.{needs}
 use Rattle.verifier.proofs.Assigning.{mine}
 use Rattle.verifier.proofs.assignment.assigned.Statement.{statement}
 use Rattle.verifier.proofs.assignment.assigned.Tie as tie
 
-mul-wide : tie.Need-mul-wide
-mul-wide c = search needs
+mul-usize-of-u16 : tie.Need-mul-usize-of-u16
+mul-usize-of-u16 c = search mine
 
-array-read-wide : tie.Need-array-read-wide
-array-read-wide c = search needs
+array-read-usize-of-u16 : tie.Need-array-read-usize-of-u16
+array-read-usize-of-u16 c = search mine
 
-wide-requires : tie.Need-wide-requires
-wide-requires c κs = search needs
+usize-of-u16-requires : tie.Need-usize-of-u16-requires
+usize-of-u16-requires c κs = search mine
 
 returns : tie.Need-returns
 returns c = search mine
@@ -21,4 +20,6 @@ returns-2 : tie.Need-returns-2
 returns-2 c = search mine
 
 pub assigned-spec : {M : Type 1} → statement M
-assigned-spec = tie.close (tie.spec mul-wide array-read-wide wide-requires returns returns-2)
+assigned-spec =
+    tie.close
+    (tie.spec mul-usize-of-u16 array-read-usize-of-u16 usize-of-u16-requires returns returns-2)

@@ -1,9 +1,8 @@
 -- `verifier::assignment::first_unassigned` meets its contract. The invariant: every variable passed has a row. The measure is what is left of them.
 -- Assumes nothing.
-use borrow.Author.Needs.{needs}
-use Prim.Native.Nat.{_-_}
+use Rattle.verifier.proofs.Running.{mine, Running}
 use Rattle.meaning.specs.Checking.{assignedBy}
-use Rattle.verifier.proofs.Running.{mine, Running, running-next, ends-here}
+use Prim.Native.Nat.{_-_}
 use Rattle.verifier.proofs.assignment.first_unassigned.Statement.{statement}
 use Rattle.verifier.proofs.assignment.first_unassigned.Tie as tie
 
@@ -20,16 +19,16 @@ assigned-requires : tie.Need-assigned-requires Inv-loop μ-loop
 assigned-requires c κs = search mine
 
 returns : tie.Need-returns Inv-loop μ-loop
-returns c = ends-here _ _ _ _ (c .before .before .before .loop .inv) (search mine) (c .before .assigned .ensures) (c .if1 .taken)
+returns c = search mine
 
 add-v : tie.Need-add-v Inv-loop μ-loop
-add-v c = search needs
+add-v c = search mine
 
 loop-less : tie.Need-loop-less Inv-loop μ-loop
-loop-less c = search needs
+loop-less c = search mine
 
 loop-again : tie.Need-loop-again Inv-loop μ-loop
-loop-again c = running-next _ _ _ _ (c .before .before .before .loop .inv) (search mine) (c .before .assigned .ensures) (c .if1 .left)
+loop-again c = search mine
 
 returns-2 : tie.Need-returns-2 Inv-loop μ-loop
 returns-2 c = search mine

@@ -1,37 +1,36 @@
 -- `verifier::assignment::variables` meets its contract. The invariant: n is the number of variables of the rows passed. The measure is what is left of them.
 -- Assumes nothing.
-use borrow.Author.Needs.{needs}
-use Prim.Native.Nat.{_-_}
 use Rattle.verifier.proofs.Assigning.{mine, Counting}
+use Prim.Native.Nat.{_-_}
 use Rattle.verifier.proofs.assignment.variables.Statement.{statement}
 use Rattle.verifier.proofs.assignment.variables.Tie as tie
 
 abbrev Inv-loop : tie.InvT-loop
-Inv-loop kinds heads counts args patterns n₀ p₀ n p = Counting kinds heads counts args patterns p n
+Inv-loop patterns m n₀ p₀ n p = Counting patterns m p n
 
 abbrev μ-loop : tie.MeasureT-loop
-μ-loop kinds heads counts args patterns n₀ p₀ n p = patterns - p
+μ-loop patterns m n₀ p₀ n p = m - p
+
+pattern-count-requires : tie.Need-pattern-count-requires Inv-loop μ-loop
+pattern-count-requires c κs = search mine
 
 loop-holds : tie.Need-loop-holds Inv-loop μ-loop
 loop-holds c = search mine
 
-element-copy-out-reached : tie.Need-element-copy-out-reached Inv-loop μ-loop
-element-copy-out-reached c = search needs
+pattern-kind-in-requires : tie.Need-pattern-kind-in-requires Inv-loop μ-loop
+pattern-kind-in-requires c κs = search mine
 
-mul-reached : tie.Need-mul-reached Inv-loop μ-loop
-mul-reached c = search needs
-
-element-copy-out-reached-2 : tie.Need-element-copy-out-reached-2 Inv-loop μ-loop
-element-copy-out-reached-2 c = search needs
+head-in-requires : tie.Need-head-in-requires Inv-loop μ-loop
+head-in-requires c κs = search mine
 
 reached-requires : tie.Need-reached-requires Inv-loop μ-loop
 reached-requires c κs = search mine
 
 add-p : tie.Need-add-p Inv-loop μ-loop
-add-p c = search needs
+add-p c = search mine
 
 loop-less : tie.Need-loop-less Inv-loop μ-loop
-loop-less c = search needs
+loop-less c = search mine
 
 loop-again : tie.Need-loop-again Inv-loop μ-loop
 loop-again c = search mine
@@ -45,10 +44,10 @@ variables-spec =
     (tie.spec
     Inv-loop
     μ-loop
+    pattern-count-requires
     loop-holds
-    element-copy-out-reached
-    mul-reached
-    element-copy-out-reached-2
+    pattern-kind-in-requires
+    head-in-requires
     reached-requires
     add-p
     loop-less

@@ -1,39 +1,29 @@
 -- `verifier::literals::concluded` meets its contract. The kind of the literal says which of the conclusion's fields are read, and which steps count.
 -- Assumes nothing.
-use borrow.Author.Needs.{needs}
 use Rattle.verifier.proofs.Concluding.{mine}
 use Rattle.verifier.proofs.literals.concluded.Statement.{statement}
 use Rattle.verifier.proofs.literals.concluded.Tie as tie
 
-add-owner : tie.Need-add-owner
-add-owner c = search needs
+mul-u64-of-u32 : tie.Need-mul-u64-of-u32
+mul-u64-of-u32 c = search mine
 
-mul-wide32 : tie.Need-mul-wide32
-mul-wide32 c = search needs
+element-copy-out-u64-of-u32 : tie.Need-element-copy-out-u64-of-u32
+element-copy-out-u64-of-u32 c = search mine
 
-element-copy-out-wide32 : tie.Need-element-copy-out-wide32
-element-copy-out-wide32 c = search needs
+u64-of-u32-requires : tie.Need-u64-of-u32-requires
+u64-of-u32-requires c κs = search mine
 
-wide32-requires : tie.Need-wide32-requires
-wide32-requires c κs = search needs
+sign-in-requires : tie.Need-sign-in-requires
+sign-in-requires c κs = search mine
 
-element-copy-out-if1 : tie.Need-element-copy-out-if1
-element-copy-out-if1 c = search needs
-
-mul-instance-number : tie.Need-mul-instance-number
-mul-instance-number c = search needs
-
-element-copy-out-instance-number : tie.Need-element-copy-out-instance-number
-element-copy-out-instance-number c = search needs
+left-in-requires : tie.Need-left-in-requires
+left-in-requires c κs = search mine
 
 instance-number-requires : tie.Need-instance-number-requires
 instance-number-requires c κs = search mine
 
-mul-instance-number-2 : tie.Need-mul-instance-number-2
-mul-instance-number-2 c = search needs
-
-element-copy-out-instance-number-2 : tie.Need-element-copy-out-instance-number-2
-element-copy-out-instance-number-2 c = search needs
+right-in-requires : tie.Need-right-in-requires
+right-in-requires c κs = search mine
 
 instance-number-requires-2 : tie.Need-instance-number-requires-2
 instance-number-requires-2 c κs = search mine
@@ -44,14 +34,17 @@ cited-requires c κs = search mine
 returns : tie.Need-returns
 returns c = search mine
 
-mul-wide : tie.Need-mul-wide
-mul-wide c = search needs
+mul-usize-of-u16 : tie.Need-mul-usize-of-u16
+mul-usize-of-u16 c = search mine
 
-element-copy-out-wide : tie.Need-element-copy-out-wide
-element-copy-out-wide c = search needs
+element-copy-out-usize-of-u16 : tie.Need-element-copy-out-usize-of-u16
+element-copy-out-usize-of-u16 c = search mine
 
-wide-requires : tie.Need-wide-requires
-wide-requires c κs = search needs
+usize-of-u16-requires : tie.Need-usize-of-u16-requires
+usize-of-u16-requires c κs = search mine
+
+add-differs : tie.Need-add-differs
+add-differs c = search mine
 
 differs-requires : tie.Need-differs-requires
 differs-requires c κs = search mine
@@ -63,21 +56,19 @@ pub concluded-spec : {M : Type 1} → statement M
 concluded-spec =
     tie.close
     (tie.spec
-    add-owner
-    mul-wide32
-    element-copy-out-wide32
-    wide32-requires
-    element-copy-out-if1
-    mul-instance-number
-    element-copy-out-instance-number
+    mul-u64-of-u32
+    element-copy-out-u64-of-u32
+    u64-of-u32-requires
+    sign-in-requires
+    left-in-requires
     instance-number-requires
-    mul-instance-number-2
-    element-copy-out-instance-number-2
+    right-in-requires
     instance-number-requires-2
     cited-requires
     returns
-    mul-wide
-    element-copy-out-wide
-    wide-requires
+    mul-usize-of-u16
+    element-copy-out-usize-of-u16
+    usize-of-u16-requires
+    add-differs
     differs-requires
     returns-2)

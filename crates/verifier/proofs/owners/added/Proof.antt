@@ -1,6 +1,5 @@
 -- `verifier::owners::added` meets its contract. A literal that is there and unequal is judged by the numbers of its instances.
 -- Assumes nothing.
-use borrow.Author.Needs.{needs}
 use Rattle.verifier.proofs.Owning.{mine}
 use Rattle.verifier.proofs.owners.added.Statement.{statement}
 use Rattle.verifier.proofs.owners.added.Tie as tie
@@ -9,22 +8,22 @@ returns : tie.Need-returns
 returns c = search mine
 
 sub-place : tie.Need-sub-place
-sub-place c = search needs
+sub-place c = search mine
+
+literal-count-requires : tie.Need-literal-count-requires
+literal-count-requires c κs = search mine
 
 returns-2 : tie.Need-returns-2
 returns-2 c = search mine
 
-element-copy-out-if3 : tie.Need-element-copy-out-if3
-element-copy-out-if3 c = search needs
+sign-in-requires : tie.Need-sign-in-requires
+sign-in-requires c κs = search mine
 
 returns-3 : tie.Need-returns-3
 returns-3 c = search mine
 
-mul-instance-number : tie.Need-mul-instance-number
-mul-instance-number c = search needs
-
-element-copy-out-instance-number : tie.Need-element-copy-out-instance-number
-element-copy-out-instance-number c = search needs
+left-in-requires : tie.Need-left-in-requires
+left-in-requires c κs = search mine
 
 instance-number-requires : tie.Need-instance-number-requires
 instance-number-requires c κs = search mine
@@ -32,11 +31,8 @@ instance-number-requires c κs = search mine
 returns-4 : tie.Need-returns-4
 returns-4 c = search mine
 
-mul-instance-number-2 : tie.Need-mul-instance-number-2
-mul-instance-number-2 c = search needs
-
-element-copy-out-instance-number-2 : tie.Need-element-copy-out-instance-number-2
-element-copy-out-instance-number-2 c = search needs
+right-in-requires : tie.Need-right-in-requires
+right-in-requires c κs = search mine
 
 instance-number-requires-2 : tie.Need-instance-number-requires-2
 instance-number-requires-2 c κs = search mine
@@ -50,14 +46,13 @@ added-spec =
     (tie.spec
     returns
     sub-place
+    literal-count-requires
     returns-2
-    element-copy-out-if3
+    sign-in-requires
     returns-3
-    mul-instance-number
-    element-copy-out-instance-number
+    left-in-requires
     instance-number-requires
     returns-4
-    mul-instance-number-2
-    element-copy-out-instance-number-2
+    right-in-requires
     instance-number-requires-2
     returns-5)

@@ -1,6 +1,5 @@
 -- `verifier::sides::cited` meets its contract. A step that is not among the first is not cited; another is by its owner and its two sides.
 -- Assumes nothing.
-use borrow.Author.Needs.{needs}
 use Rattle.verifier.proofs.Numbers.{mine}
 use Rattle.verifier.proofs.sides.cited.Statement.{statement}
 use Rattle.verifier.proofs.sides.cited.Tie as tie
@@ -9,16 +8,13 @@ returns : tie.Need-returns
 returns c = search mine
 
 sub-place : tie.Need-sub-place
-sub-place c = search needs
+sub-place c = search mine
 
 returns-2 : tie.Need-returns-2
 returns-2 c = search mine
 
-mul-word : tie.Need-mul-word
-mul-word c = search needs
-
-shared-slice-read-word : tie.Need-shared-slice-read-word
-shared-slice-read-word c = search needs
+sides-in-requires : tie.Need-sides-in-requires
+sides-in-requires c κs = search mine
 
 usable-requires : tie.Need-usable-requires
 usable-requires c κs = search mine
@@ -45,8 +41,7 @@ cited-spec =
     returns
     sub-place
     returns-2
-    mul-word
-    shared-slice-read-word
+    sides-in-requires
     usable-requires
     returns-3
     left-side-requires

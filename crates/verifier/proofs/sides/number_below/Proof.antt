@@ -1,21 +1,20 @@
 -- `verifier::sides::number_below` meets its contract. A row below the limit has its number, and another has none.
 -- Assumes nothing.
-use borrow.Author.Needs.{needs}
 use Rattle.verifier.proofs.Numbers.{mine}
 use Rattle.verifier.proofs.sides.number_below.Statement.{statement}
 use Rattle.verifier.proofs.sides.number_below.Tie as tie
 
-add-wide : tie.Need-add-wide
-add-wide c = search needs
+add-usize-of-u16 : tie.Need-add-usize-of-u16
+add-usize-of-u16 c = search mine
 
-mul-wide : tie.Need-mul-wide
-mul-wide c = search needs
+mul-usize-of-u16 : tie.Need-mul-usize-of-u16
+mul-usize-of-u16 c = search mine
 
-element-copy-out-wide : tie.Need-element-copy-out-wide
-element-copy-out-wide c = search needs
+shared-slice-read-usize-of-u16 : tie.Need-shared-slice-read-usize-of-u16
+shared-slice-read-usize-of-u16 c = search mine
 
-wide-requires : tie.Need-wide-requires
-wide-requires c κs = search needs
+usize-of-u16-requires : tie.Need-usize-of-u16-requires
+usize-of-u16-requires c κs = search mine
 
 returns : tie.Need-returns
 returns c = search mine
@@ -25,4 +24,11 @@ returns-2 c = search mine
 
 pub number-below-spec : {M : Type 1} → statement M
 number-below-spec =
-    tie.close (tie.spec add-wide mul-wide element-copy-out-wide wide-requires returns returns-2)
+    tie.close
+    (tie.spec
+    add-usize-of-u16
+    mul-usize-of-u16
+    shared-slice-read-usize-of-u16
+    usize-of-u16-requires
+    returns
+    returns-2)

@@ -1,18 +1,17 @@
 -- `verifier::sides::side` meets its contract. The mark says which rows are meant.
 -- Assumes nothing.
-use borrow.Author.Needs.{needs}
 use Rattle.verifier.proofs.Numbers.{mine}
 use Rattle.verifier.proofs.sides.side.Statement.{statement}
 use Rattle.verifier.proofs.sides.side.Tie as tie
-
-add-none : tie.Need-add-none
-add-none c = search needs
 
 number-below-requires : tie.Need-number-below-requires
 number-below-requires c κs = search mine
 
 returns : tie.Need-returns
 returns c = search mine
+
+sub-number-below : tie.Need-sub-number-below
+sub-number-below c = search mine
 
 number-below-requires-2 : tie.Need-number-below-requires-2
 number-below-requires-2 c κs = search mine
@@ -26,4 +25,10 @@ returns-3 c = search mine
 pub side-spec : {M : Type 1} → statement M
 side-spec =
     tie.close
-    (tie.spec add-none number-below-requires returns number-below-requires-2 returns-2 returns-3)
+    (tie.spec
+    number-below-requires
+    returns
+    sub-number-below
+    number-below-requires-2
+    returns-2
+    returns-3)

@@ -4,6 +4,9 @@ use Rattle.verifier.proofs.Numbers.{mine}
 use Rattle.verifier.proofs.sides.usable.Statement.{statement}
 use Rattle.verifier.proofs.sides.usable.Tie as tie
 
+owner-of-requires : tie.Need-owner-of-requires
+owner-of-requires c κs = search mine
+
 returns : tie.Need-returns
 returns c = search mine
 
@@ -11,4 +14,4 @@ returns-2 : tie.Need-returns-2
 returns-2 c = search mine
 
 pub usable-spec : {M : Type 1} → statement M
-usable-spec = tie.close (tie.spec returns returns-2)
+usable-spec = tie.close (tie.spec owner-of-requires returns returns-2)

@@ -4,6 +4,15 @@ use Rattle.verifier.proofs.Following.{mine}
 use Rattle.verifier.proofs.steps.derives.Statement.{statement}
 use Rattle.verifier.proofs.steps.derives.Tie as tie
 
+sides-in-requires : tie.Need-sides-in-requires
+sides-in-requires c κs = search mine
+
+kind-of-requires : tie.Need-kind-of-requires
+kind-of-requires c κs = search mine
+
+number-at-requires : tie.Need-number-at-requires
+number-at-requires c κs = search mine
+
 paired-requires : tie.Need-paired-requires
 paired-requires c κs = search mine
 
@@ -18,6 +27,9 @@ cited-requires c κs = search mine
 
 returns-3 : tie.Need-returns-3
 returns-3 c = search mine
+
+number-at-requires-2 : tie.Need-number-at-requires-2
+number-at-requires-2 c κs = search mine
 
 met-requires : tie.Need-met-requires
 met-requires c κs = search mine
@@ -44,11 +56,15 @@ pub derives-spec : {M : Type 1} → statement M
 derives-spec =
     tie.close
     (tie.spec
+    sides-in-requires
+    kind-of-requires
+    number-at-requires
     paired-requires
     returns
     returns-2
     cited-requires
     returns-3
+    number-at-requires-2
     met-requires
     returns-4
     congruent-requires

@@ -1,46 +1,35 @@
 -- `verifier::steps::first_bad` meets its contract. The invariant: every step passed follows. The measure is what is left of them.
 -- Assumes nothing.
-use borrow.Author.Needs.{needs}
-use Prim.Native.Nat.{_+_, _-_}
+use Rattle.verifier.proofs.Running.{mine, Running}
 use lib.ListN.{length}
-use Rattle.meaning.specs.Columns.{rowsFrom, literalsFrom}
-use Rattle.meaning.specs.Checking.{followsBy}
-use Rattle.meaning.specs.GroundColumns.{stepsFrom, pairsFrom}
-use Rattle.verifier.proofs.Running.{mine, Running, running-next, ends-here, inside-third}
+use Rattle.verifier.specs.Tests.{followsAt}
+use Prim.Native.Nat.{_-_}
 use Rattle.verifier.proofs.steps.first_bad.Statement.{statement}
 use Rattle.verifier.proofs.steps.first_bad.Tie as tie
 
 abbrev Inv-loop : tie.InvT-loop
-Inv-loop symbols counts args lefts rights equations signs ls rs literals numbers rows patterns firsts seconds thirds n i₀ i =
-    Running
-    (followsBy numbers rows patterns (rowsFrom symbols counts args (rows + patterns)) (pairsFrom lefts rights equations) (literalsFrom signs ls rs literals) (stepsFrom firsts seconds thirds))
-    (length (stepsFrom firsts seconds thirds))
-    i
+Inv-loop keys pairs literals numbers n steps m i₀ i = Running (followsAt keys pairs literals numbers n steps) (length steps) i
 
 abbrev μ-loop : tie.MeasureT-loop
-μ-loop symbols counts args lefts rights equations signs ls rs literals numbers rows patterns firsts seconds thirds n i₀ i = n - i
-
-shortest-requires : tie.Need-shortest-requires Inv-loop μ-loop
-shortest-requires c κs = search needs
+μ-loop keys pairs literals numbers n steps m i₀ i = m - i
 
 loop-holds : tie.Need-loop-holds Inv-loop μ-loop
 loop-holds c = search mine
 
 follows-requires : tie.Need-follows-requires Inv-loop μ-loop
-follows-requires c κs =
-    (search mine, (search mine, (search mine, (search mine, (search mine, (search mine, inside-third _ _ _ _ _ (c .before .before .shortest .ensures) (c .loop-test .taken)))))))
+follows-requires c κs = search mine
 
 returns : tie.Need-returns Inv-loop μ-loop
-returns c = ends-here _ _ _ _ (c .before .before .before .loop .inv) (search mine) (c .before .follows .ensures) (c .if1 .taken)
+returns c = search mine
 
 add-i : tie.Need-add-i Inv-loop μ-loop
-add-i c = search needs
+add-i c = search mine
 
 loop-less : tie.Need-loop-less Inv-loop μ-loop
-loop-less c = search needs
+loop-less c = search mine
 
 loop-again : tie.Need-loop-again Inv-loop μ-loop
-loop-again c = running-next _ _ _ _ (c .before .before .before .loop .inv) (search mine) (c .before .follows .ensures) (c .if1 .left)
+loop-again c = search mine
 
 returns-2 : tie.Need-returns-2 Inv-loop μ-loop
 returns-2 c = search mine
@@ -51,7 +40,6 @@ first-bad-spec =
     (tie.spec
     Inv-loop
     μ-loop
-    shortest-requires
     loop-holds
     follows-requires
     returns

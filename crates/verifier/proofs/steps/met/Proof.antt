@@ -1,6 +1,5 @@
 -- `verifier::steps::met` meets its contract. The term in the middle is read off the first step, and has to be there.
 -- Assumes nothing.
-use borrow.Author.Needs.{needs}
 use Rattle.verifier.proofs.Ways.{mine}
 use Rattle.verifier.proofs.steps.met.Statement.{statement}
 use Rattle.verifier.proofs.steps.met.Tie as tie
@@ -9,22 +8,16 @@ returns : tie.Need-returns
 returns c = search mine
 
 sub-place : tie.Need-sub-place
-sub-place c = search needs
+sub-place c = search mine
 
 returns-2 : tie.Need-returns-2
 returns-2 c = search mine
 
-mul-right-side : tie.Need-mul-right-side
-mul-right-side c = search needs
-
-shared-slice-read-right-side : tie.Need-shared-slice-read-right-side
-shared-slice-read-right-side c = search needs
+sides-in-requires : tie.Need-sides-in-requires
+sides-in-requires c κs = search mine
 
 right-side-requires : tie.Need-right-side-requires
 right-side-requires c κs = search mine
-
-add-if3 : tie.Need-add-if3
-add-if3 c = search needs
 
 returns-3 : tie.Need-returns-3
 returns-3 c = search mine
@@ -48,10 +41,8 @@ met-spec =
     returns
     sub-place
     returns-2
-    mul-right-side
-    shared-slice-read-right-side
+    sides-in-requires
     right-side-requires
-    add-if3
     returns-3
     cited-requires
     returns-4

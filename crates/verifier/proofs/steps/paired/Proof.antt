@@ -1,6 +1,5 @@
 -- `verifier::steps::paired` meets its contract. A pair that is not there is none; another is by its two sides.
 -- Assumes nothing.
-use borrow.Author.Needs.{needs}
 use Rattle.verifier.proofs.Ways.{mine}
 use Rattle.verifier.proofs.steps.paired.Statement.{statement}
 use Rattle.verifier.proofs.steps.paired.Tie as tie
@@ -9,31 +8,22 @@ returns : tie.Need-returns
 returns c = search mine
 
 sub-place : tie.Need-sub-place
-sub-place c = search needs
+sub-place c = search mine
+
+pair-count-requires : tie.Need-pair-count-requires
+pair-count-requires c κs = search mine
 
 returns-2 : tie.Need-returns-2
 returns-2 c = search mine
 
-mul-wide : tie.Need-mul-wide
-mul-wide c = search needs
-
-element-copy-out-wide : tie.Need-element-copy-out-wide
-element-copy-out-wide c = search needs
-
-wide-requires : tie.Need-wide-requires
-wide-requires c κs = search needs
+first-in-requires : tie.Need-first-in-requires
+first-in-requires c κs = search mine
 
 returns-3 : tie.Need-returns-3
 returns-3 c = search mine
 
-mul-wide-2 : tie.Need-mul-wide-2
-mul-wide-2 c = search needs
-
-element-copy-out-wide-2 : tie.Need-element-copy-out-wide-2
-element-copy-out-wide-2 c = search needs
-
-wide-requires-2 : tie.Need-wide-requires-2
-wide-requires-2 c κs = search needs
+second-in-requires : tie.Need-second-in-requires
+second-in-requires c κs = search mine
 
 returns-4 : tie.Need-returns-4
 returns-4 c = search mine
@@ -44,12 +34,9 @@ paired-spec =
     (tie.spec
     returns
     sub-place
+    pair-count-requires
     returns-2
-    mul-wide
-    element-copy-out-wide
-    wide-requires
+    first-in-requires
     returns-3
-    mul-wide-2
-    element-copy-out-wide-2
-    wide-requires-2
+    second-in-requires
     returns-4)
