@@ -13,12 +13,12 @@ use Rattle.ledger.specs.declared.ClauseColumns.{ClauseColumns}
 use Rattle.replies.specs.declared.Refusal.{Refusal}
 use Rattle.records.specs.declared.Row.{Row}
 use Rattle.records.specs.declared.Statements.{Statements}
-use Rattle.recorded.specs.declared.Outcome.{Outcome}
-use Rattle.recorded.specs.declared.Outcome.the-variants.{Breach, Refused}
-use Rattle.recorded.specs.declared.Reply.{Reply}
-use Rattle.recorded.specs.Claims.{unfitReply, FindsRows}
-use Rattle.recorded.proofs.Alike.{finds-rows-one}
-use Rattle.recorded.proofs.Controls.{many, some-unfit-256}
+use Rattle.records.specs.declared.finding.Outcome.{Outcome}
+use Rattle.records.specs.declared.finding.Outcome.the-variants.{Breach, Refused}
+use Rattle.records.specs.declared.finding.Reply.{Reply}
+use Rattle.records.specs.Claims.{unfitReply, FindsRows}
+use Rattle.records.proofs.Alike.{finds-rows-one}
+use Rattle.records.proofs.Controls.{many, some-unfit-256}
 use Rattle.boundary.specs.Packs.{packedBy}
 use Rattle.boundary.specs.Rows.{packedRows, handedRows, Told, AnswersRows}
 

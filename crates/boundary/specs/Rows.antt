@@ -10,10 +10,10 @@ use Prim.Native.Nat.{ℕ, _+_, _*_}
 use Rattle.ledger.specs.declared.ClauseColumns.{ClauseColumns}
 use Rattle.records.specs.declared.Row.{Row}
 use Rattle.records.specs.declared.Statements.{Statements}
-use Rattle.recorded.specs.declared.Outcome.{Outcome}
-use Rattle.recorded.specs.declared.Outcome.the-variants.{Breach, Clear, Refused, Unfit}
-use Rattle.recorded.specs.declared.Reply.{Reply}
-use Rattle.recorded.specs.Claims.{FindsRows}
+use Rattle.records.specs.declared.finding.Outcome.{Outcome}
+use Rattle.records.specs.declared.finding.Outcome.the-variants.{Breach, Clear, Refused, Unfit}
+use Rattle.records.specs.declared.finding.Reply.{Reply}
+use Rattle.records.specs.Claims.{FindsRows}
 use Rattle.boundary.specs.Packs.{packedBy}
 
 abbrev pub packedRows : Outcome → ℕ

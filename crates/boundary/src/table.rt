@@ -1,10 +1,10 @@
 // The finder over records for programs in other languages: a reply is one number, and the rows of a breach stand in the caller's space.
 use super::pack_refusal;
 use ledger::ClauseColumns;
-use recorded::Outcome;
-use recorded::Reply;
 use records::Row;
 use records::Statements;
+use records::finding::Outcome;
+use records::finding::Reply;
 ghost use mathlib.Core.Path.{_≡_};
 ghost use Rattle.boundary.specs.Rows.{packedRows, handedRows, Told, AnswersRows};
 
@@ -53,6 +53,6 @@ pub extern "C" fn checker_find_rows(
 {
     let s = *said;
     let k = *rule;
-    let reply = recorded::find(rows, s, k);
+    let reply = records::find(rows, s, k);
     tell(reply, places)
 }

@@ -1,157 +1,135 @@
--- The two layouts hold the same context: whatever is said of the one is said of the other, and they are well-formed alike.
---     FitColumns, saidBy                            columns are well-formed, and the context that they say
---     holds-context                                 columns that hold records say their context
---     holds-fit, fit-holds                          and are well-formed where they are, of whatever table
---     gathered-holds, gather-take, gather-holds     columns hold the records made of them
---     gather-fit, fit-gather, gather-context        so both are well-formed alike, and say one context
---     spread-holds, spread-over                     the columns made of at most 255 records hold them; of more, neither is well-formed
---     spread-fit, fit-spread, spread-context        so both are well-formed alike, and say one context, whatever the records
---     row-unread, rows-unread, unread               argument places from the count on are not read
+-- Records and the runs made of them hold the same context, and are well-formed alike.
+--     laid-rows, laid-said                the rows that the run of a table says, and the statements that the run of statements says
+--     laid-context                        so records and runs say one context
+--     laid-fit, fit-laid                  and are well-formed alike, whatever the records: too many are in neither
+--     row-unread, rows-unread, unread     argument places from the count on are not read
 -- Assumes nothing.
-use mathlib.Core.List.{List, [], _∷_, map}
+use mathlib.Core.Bool.{Bool, true, false}
+use mathlib.Core.List.{List, [], _∷_, _++_, map}
 use mathlib.Core.Path.{_≡_, refl, sym, ap, ap₂, _∙_}
-use Prim.Native.Nat.{ℕ, suc, _≤_, _<_}
+use Prim.Native.Nat.{ℕ, zero, suc, _+_, _≤_, _<_}
 use native.Mathlib.Omega.{arith}
-use lib.ListN.{length, getD, take, length-take, length-map, List·getD-map}
-use lib.Seq.{getD-take, ext-getD}
+use borrow.Author.Tests.{le-ltb, ltb-true, ltb-false}
+use lib.Dec.{ltb}
+use lib.ListN.{length, getD, take, drop, replicate, length-take, length-map, List·getD-map, List·getD-append}
+use lib.Seq.{getD-take, ext-getD, take-length}
 use Rattle.meaning.specs.Context as M
-use Rattle.meaning.specs.Context.{Context, row₀}
-use Rattle.meaning.specs.Columns.{argsAt, rowFrom, rowsFrom, statementsFrom, contextFrom}
-use Rattle.meaning.proofs.Built.{length-rows, rows-at}
-use Rattle.ledger.specs.declared.ContextColumns.{ContextColumns}
-use Rattle.columns.specs.Fit.{FitContext}
-use Rattle.columns.proofs.Flat.{arg-at, args-length}
+use Rattle.meaning.specs.Context.{row₀, Statement}
+use Rattle.meaning.specs.Columns.{statementOf, statementsFrom}
+use Rattle.runs.specs.Fit.{FitContext}
+use Rattle.runs.specs.Limits.{mostRows, mostStatements, rowSize, saidSize}
+use Rattle.runs.specs.Runs as R
+use Rattle.runs.specs.Runs.{each, rowCount, saidCount, countIn}
+use Rattle.runs.proofs.Saying.{each-length, each-at}
 use Rattle.records.specs.declared.Row.{Row}
 use Rattle.records.specs.declared.Statements.{Statements}
+use Rattle.records.specs.declared.Table.{Table}
 use Rattle.records.specs.Records.{noRow, fourOf, rowOf, contextOf, FitRows}
-use Rattle.records.specs.Layouts.{listOf, spreadOf, recordsFrom, gatherOf, statedIn, Holds}
-use Rattle.records.proofs.Reading.{four-at, read-at, read-length, records-length, records-at, record-arg, records-take, flat-length, flat-at, padded, listed-rows, padded-at, padded-length, padded-column}
+use Rattle.records.specs.Layouts.{room, listOf, told, rowPiece, saidPiece, rowsLaid, saidLaid}
+use Rattle.records.proofs.Joining.{joined-length, joined-at, joined-rows, joined-said, told-all, told-over}
 
-abbrev pub FitColumns : ContextColumns → Type 0
-FitColumns c = FitContext (c .symbols) (c .counts) (c .args) (c .rows) (c .kinds) (c .lefts) (c .rights) (c .statements)
+-- ---- how many
 
-abbrev pub saidBy : ContextColumns → Context
-saidBy c = contextFrom (c .symbols) (c .counts) (c .args) (c .rows) (c .kinds) (c .lefts) (c .rights) (c .statements)
+module _ (most count : ℕ) where
+  pub told-few : told most count ≤ most → count ≤ most
+  told-few h = go (ltb most count) refl
+    where
+      go : (b : Bool) → ltb most count ≡ b → count ≤ most
+      go false e = ltb-false most count e
+      go true e = absurd (omega (arith, told-over most count (ltb-true most count e)))
 
--- ---- columns that hold records
+rows-counted : (t : Table) → rowCount (rowsLaid t) ≡ told mostRows (t .count)
+rows-counted t = omega (arith, joined-length (rowPiece (t .rows)) rowSize (λ i. refl) (told mostRows (t .count)))
 
-module _ (rows : List Row) (symbols counts args : List ℕ) (n : ℕ) (h : Holds rows symbols counts args n) (m : n ≤ 255) (b : (i : ℕ) → i < n → getD counts i 0 ≤ 4) where
-  holds-args : (i : ℕ) → i < n → argsAt counts args i ≡ rowOf (getD rows i noRow) .args
-  holds-args i l =
-      let few : getD counts i 0 ≤ 4 = b i l in
-      let same : getD counts i 0 ≡ getD rows i noRow .count = h .count i l in
-      let a : length (argsAt counts args i) ≡ getD counts i 0 = args-length counts args i (omega (arith, h .long m)) in
-      let z : length (take (getD rows i noRow .count) (fourOf (getD rows i noRow))) ≡ getD rows i noRow .count = read-length (getD rows i noRow) (omega arith) in
-      ext-getD 0 (argsAt counts args i) (take (getD rows i noRow .count) (fourOf (getD rows i noRow))) (omega arith) (λ k j.
-      arg-at counts args i k (omega arith) ∙ h .arg i k l (omega arith) ∙ sym (read-at (getD rows i noRow) k (omega arith) (omega arith)))
+said-counted : (s : Statements) → saidCount (saidLaid s) ≡ told mostStatements (s .count)
+said-counted s = omega (arith, joined-length (saidPiece s) saidSize (λ i. refl) (told mostStatements (s .count)))
 
-  holds-row : (i : ℕ) → i < n → rowFrom symbols counts args i ≡ rowOf (getD rows i noRow)
-  holds-row i l = ap₂ (λ (f : ℕ) (a : List ℕ). record { symbol = f; args = a }) (h .symbol i l) (holds-args i l)
+-- ---- what the runs say
 
-  holds-rows : rowsFrom symbols counts args n ≡ map rowOf rows
-  holds-rows =
-      ext-getD row₀ (rowsFrom symbols counts args n) (map rowOf rows) (omega (arith, length-rows symbols counts args n, length-map rows rowOf, h .many)) (λ i k.
-      let l : i < n = omega (arith, length-rows symbols counts args n) in
-      rows-at symbols counts args n i l ∙ holds-row i l ∙ sym (List·getD-map rowOf rows i noRow))
+pub laid-rows : (t : Table) → R.rowsOf (rowsLaid t) ≡ each (λ i. rowOf (getD (t .rows) i noRow)) (told mostRows (t .count))
+laid-rows t = joined-rows (rowPiece (t .rows)) (λ i. refl) (told mostRows (t .count))
 
-  pub holds-context : (s : Statements) → contextFrom symbols counts args n (s .kinds) (s .lefts) (s .rights) (s .count) ≡ contextOf rows s
-  unfolding contextFrom contextOf
-  holds-context s = ap (λ (r : List M.Row). record { rows = r; statements = statementsFrom (s .kinds) (s .lefts) (s .rights) (s .count) }) holds-rows
+pub from-each : (s : Statements) (n : ℕ) → statementsFrom (s .kinds) (s .lefts) (s .rights) n ≡ each (λ i. statementOf (getD (s .kinds) i 0) (getD (s .lefts) i 0) (getD (s .rights) i 0)) n
+unfolding statementsFrom each
+from-each s zero = refl
+from-each s (suc n) = rw (from-each s n)
 
-module _ (rows : List Row) (symbols counts args : List ℕ) (n : ℕ) (h : Holds rows symbols counts args n) (s : Statements) where
-  pub holds-fit : FitContext symbols counts args n (s .kinds) (s .lefts) (s .rights) (s .count) → FitRows rows s
-  holds-fit f =
-      record {
-        rows-few = omega (arith, h .many, f .rows-few);
-        statements-few = f .statements-few;
-        counts-few = λ i l. let k : i < n = omega (arith, h .many) in omega (arith, h .count i k, f .counts-few i k);
-        fit = rw (holds-context rows symbols counts args n h (f .rows-few) (f .counts-few) s) at (f .fit);
-      }
+pub laid-said : (s : Statements) → s .count ≤ mostStatements → R.statementsOf (saidLaid s) ≡ statementsFrom (s .kinds) (s .lefts) (s .rights) (s .count)
+laid-said s h =
+    joined-said (saidPiece s) (λ i. refl) (told mostStatements (s .count))
+    ∙ rw (sym (told-all mostStatements (s .count) h)) (sym (from-each s (s .count)))
 
-  pub fit-holds : FitRows rows s → FitContext symbols counts args n (s .kinds) (s .lefts) (s .rights) (s .count)
-  fit-holds f =
+-- ---- records by value
+
+-- the records, and blank ones up to the most
+abbrev padded : List Row → List Row
+padded rows = rows ++ drop (length rows) (replicate mostRows noRow)
+
+listed-rows : (rows : List Row) → length rows ≤ mostRows → listOf rows .rows ≡ padded rows
+unfolding listOf room
+listed-rows rows h = rw (le-ltb mostRows (length rows) h, room, take-length rows)
+
+listed-count : (rows : List Row) → listOf rows .count ≡ length rows
+unfolding listOf
+listed-count rows = refl
+
+module _ (rows : List Row) (few : length rows ≤ mostRows) where
+  listed-at : (i : ℕ) → i < length rows → getD (listOf rows .rows) i noRow ≡ getD rows i noRow
+  listed-at i h = rw (listed-rows rows few) (List·getD-append rows (drop (length rows) (replicate mostRows noRow)) noRow i h)
+
+  many : told mostRows (listOf rows .count) ≡ length rows
+  many = rw (listed-count rows) (sym (told-all mostRows (length rows) few))
+
+  mapped : each (λ i. rowOf (getD (listOf rows .rows) i noRow)) (length rows) ≡ map rowOf rows
+  mapped =
+      ext-getD row₀ _ _ (each-length _ (length rows) ∙ sym (length-map rows rowOf)) (λ i h.
+      let l : i < length rows = rw (each-length (λ i. rowOf (getD (listOf rows .rows) i noRow)) (length rows)) at h in
+      each-at _ (length rows) i row₀ l ∙ ap rowOf (listed-at i l) ∙ sym (List·getD-map rowOf rows i noRow))
+
+  pub listed-say : R.rowsOf (rowsLaid (listOf rows)) ≡ map rowOf rows
+  listed-say = laid-rows (listOf rows) ∙ rw many mapped
+
+  listed-counts : (i : ℕ) → i < length rows → countIn (rowsLaid (listOf rows)) i ≡ getD rows i noRow .count
+  listed-counts i h =
+      joined-at (rowPiece (listOf rows .rows)) rowSize (λ j. refl) (told mostRows (listOf rows .count)) i 1 (rw many h) (omega arith)
+      ∙ ap (λ (r : Row). r .count) (listed-at i h)
+
+-- ---- one context, and well-formed alike
+
+module _ (rows : List Row) (s : Statements) where
+  pub laid-context : length rows ≤ mostRows → s .count ≤ mostStatements → R.contextOf (rowsLaid (listOf rows)) (saidLaid s) ≡ contextOf rows s
+  unfolding contextOf
+  laid-context few h = ap₂ (λ (x : List M.Row) (y : List Statement). record { rows = x; statements = y }) (listed-say rows few) (laid-said s h)
+
+  pub laid-fit : FitContext mostRows mostStatements (rowsLaid (listOf rows)) (saidLaid s) → FitRows rows s
+  laid-fit f =
+      let t : told mostRows (listOf rows .count) ≤ mostRows = omega (arith, f .rows-few, rows-counted (listOf rows)) in
+      let few : length rows ≤ mostRows = told-few mostRows (length rows) (rw (listed-count rows) at t) in
+      let less : s .count ≤ mostStatements = told-few mostStatements (s .count) (omega (arith, f .said-few, said-counted s)) in
       record {
         rows-few = few;
-        statements-few = f .statements-few;
-        counts-few = counts-few;
-        fit = rw (holds-context rows symbols counts args n h few counts-few s) (f .fit);
+        statements-few = less;
+        counts-few = λ i h. rw (listed-counts rows few i h) at (f .counts-few i (omega (arith, rows-counted (listOf rows), many rows few)));
+        fit = rw (laid-context few less) at (f .fit);
       }
-    where
-      few : n ≤ 255
-      few = omega (arith, h .many, f .rows-few)
 
-      counts-few : (i : ℕ) → i < n → getD counts i 0 ≤ 4
-      counts-few i l = omega (arith, h .count i l, f .counts-few i (omega (arith, h .many)))
+  pub fit-laid : FitRows rows s → FitContext mostRows mostStatements (rowsLaid (listOf rows)) (saidLaid s)
+  fit-laid f =
+      record {
+        rows-few = omega (arith, rows-counted (listOf rows), many rows (f .rows-few), f .rows-few);
+        said-few = omega (arith, said-counted s, told-all mostStatements (s .count) (f .statements-few), f .statements-few);
+        counts-few = λ i h.
+            let l : i < length rows = omega (arith, rows-counted (listOf rows), many rows (f .rows-few)) in
+            rw (listed-counts rows (f .rows-few) i l) (f .counts-few i l);
+        fit = rw (laid-context (f .rows-few) (f .statements-few)) (f .fit);
+      }
 
--- ---- columns to records
-
-pub gathered-holds : (symbols counts args : List ℕ) (n : ℕ) → length args ≡ 1020 → Holds (recordsFrom symbols counts args n) symbols counts args n
-gathered-holds symbols counts args n l =
-    record {
-      many = records-length symbols counts args n;
-      long = λ m. omega arith;
-      symbol = λ i h. rw (records-at symbols counts args n i h);
-      count = λ i h. rw (records-at symbols counts args n i h);
-      arg = λ i k h j. rw (records-at symbols counts args n i h) (record-arg symbols counts args i k j);
-    }
-
-module _ (c : ContextColumns) where
-  pub gather-take : c .rows ≤ 255 → take (c .rows) (gatherOf c .rows) ≡ recordsFrom (c .symbols) (c .counts) (c .args) (c .rows)
-  unfolding gatherOf
-  gather-take h = records-take (c .symbols) (c .counts) (c .args) (c .rows) 255 h
-
-  module _ (few : c .rows ≤ 255) (long : length (c .args) ≡ 1020) where
-    pub gather-holds : Holds (take (c .rows) (gatherOf c .rows)) (c .symbols) (c .counts) (c .args) (c .rows)
-    gather-holds = rw (gather-take few) (gathered-holds (c .symbols) (c .counts) (c .args) (c .rows) long)
-
-    pub gather-fit : FitColumns c → FitRows (take (c .rows) (gatherOf c .rows)) (statedIn c)
-    unfolding statedIn
-    gather-fit f = holds-fit (take (c .rows) (gatherOf c .rows)) (c .symbols) (c .counts) (c .args) (c .rows) gather-holds (statedIn c) f
-
-    pub fit-gather : FitRows (take (c .rows) (gatherOf c .rows)) (statedIn c) → FitColumns c
-    unfolding statedIn
-    fit-gather f = fit-holds (take (c .rows) (gatherOf c .rows)) (c .symbols) (c .counts) (c .args) (c .rows) gather-holds (statedIn c) f
-
-    pub gather-context : FitColumns c → saidBy c ≡ contextOf (take (c .rows) (gatherOf c .rows)) (statedIn c)
-    unfolding statedIn
-    gather-context f =
-        holds-context (take (c .rows) (gatherOf c .rows)) (c .symbols) (c .counts) (c .args) (c .rows) gather-holds few (f .counts-few) (statedIn c)
-
--- ---- records to columns
-
-module _ (rows : List Row) where
-  pub spread-holds : (s : Statements) → length rows ≤ 255
-      → Holds rows (spreadOf (listOf rows) s .symbols) (spreadOf (listOf rows) s .counts) (spreadOf (listOf rows) s .args) (length rows)
-  unfolding spreadOf
-  spread-holds s m =
-      rw (listed-rows rows m) (record {
-        many = refl;
-        long = λ k. omega (arith, flat-length (padded rows), padded-length rows);
-        symbol = λ i h. padded-column rows (λ r. r .symbol) i refl h;
-        count = λ i h. padded-column rows (λ r. r .count) i refl h;
-        arg = λ i k h j. rw (flat-at (padded rows) i k (omega (arith, padded-length rows)) j, padded-at rows i h);
-      })
-
-  module _ (s : Statements) where
-    pub spread-over : 255 < length rows → (FitColumns (spreadOf (listOf rows) s) → ⊥) × (FitRows rows s → ⊥)
-    unfolding spreadOf listOf
-    spread-over h = (λ f. omega (arith, f .rows-few), λ f. omega (arith, f .rows-few))
-
-    pub spread-fit : FitColumns (spreadOf (listOf rows) s) → FitRows rows s
-    unfolding spreadOf listOf
-    spread-fit f = holds-fit rows (spreadOf (listOf rows) s .symbols) (spreadOf (listOf rows) s .counts) (spreadOf (listOf rows) s .args) (length rows) (spread-holds s (f .rows-few)) s f
-
-    pub fit-spread : FitRows rows s → FitColumns (spreadOf (listOf rows) s)
-    unfolding spreadOf listOf
-    fit-spread f = fit-holds rows (spreadOf (listOf rows) s .symbols) (spreadOf (listOf rows) s .counts) (spreadOf (listOf rows) s .args) (length rows) (spread-holds s (f .rows-few)) s f
-
-    pub spread-context : FitRows rows s → saidBy (spreadOf (listOf rows) s) ≡ contextOf rows s
-    unfolding spreadOf listOf
-    spread-context f =
-        holds-context rows (spreadOf (listOf rows) s .symbols) (spreadOf (listOf rows) s .counts) (spreadOf (listOf rows) s .args) (length rows) (spread-holds s (f .rows-few))
-        (f .rows-few)
-        (fit-spread f .counts-few)
-        s
+four-at : (r : Row) (k : ℕ) → k < 4 → getD (fourOf r) k 0 ≡ getD (r .args) k 0
+four-at r zero h = refl
+four-at r (suc zero) h = refl
+four-at r (suc (suc zero)) h = refl
+four-at r (suc (suc (suc zero))) h = refl
+four-at r (suc (suc (suc (suc k)))) h = absurd (omega arith)
 
 -- ---- what is not read
 

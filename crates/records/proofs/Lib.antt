@@ -1,7 +1,10 @@
 -- The root of the laws.
 pub mod Copying
 pub mod Room
-pub mod Laying
-pub mod Reading
+pub mod Joining
+pub mod Filling
 pub mod Layouts
+pub mod Judging
+pub mod Alike
+pub mod Gathering
 pub mod Controls

@@ -1,73 +1,73 @@
--- Records and columns: one table in two layouts.
---     room, listOf             a run of records by value: all of them in 255 places, and none of more than 255
---     flat, partsOf, spreadOf  records in columns, four places for each row's arguments
---     recordAt, recordsFrom    the first rows of columns as records
---     gatherOf, statedIn       all of them, and the statements
---     Holds                    columns and records say the same of each row
+-- Records, statements and a rule in runs.
+--     room, listOf                   a run of records by value: all of them in as many places as the most rows, and none of too many
+--     told, least                    how many pieces a run has: all, or one more than the most; and how many of them there are, or the most
+--     joined                         pieces one after the other
+--     rowNumbers .. literalPiece     the numbers of a record, a statement, a pattern row and a literal
+--     rowsLaid .. literalsLaid       the runs; of too many pieces one more than the most
+--     ruleOf                         the rule that its runs say
 -- Assumes nothing.
 use mathlib.Core.Bool.{true, false}
-use mathlib.Core.List.{List, [], _∷_, _++_, map}
-use mathlib.Core.Path.{_≡_}
-use Prim.Native.Nat.{ℕ, zero, suc, _+_, _*_, _≤_, _<_}
+use mathlib.Core.List.{List, [], _∷_, _++_}
+use Prim.Native.Nat.{ℕ, zero, suc, _+_, _*_}
 use lib.Dec.{ltb}
 use lib.ListN.{length, getD, take, drop, replicate}
-use Rattle.ledger.specs.declared.ContextColumns.{ContextColumns}
-use Rattle.records.specs.declared.Parts.{Parts}
+use Rattle.meaning.specs.Rules.{Clause}
+use Rattle.runs.specs.Limits.{mostRows, mostStatements, mostPatterns, mostLiterals, argPlaces}
+use Rattle.runs.specs.Runs.{clauseOf}
+use Rattle.ledger.specs.declared.ClauseColumns.{ClauseColumns}
 use Rattle.records.specs.declared.Row.{Row}
 use Rattle.records.specs.declared.Statements.{Statements}
 use Rattle.records.specs.declared.Table.{Table}
 use Rattle.records.specs.Records.{noRow, fourOf}
 
 unfoldable pub room : ℕ → ℕ
-room n = elim (ltb 255 n) [ true ↦ 0 | false ↦ n ]
+room n = elim (ltb mostRows n) [ true ↦ 0 | false ↦ n ]
 
 unfoldable pub listOf : List Row → Table
-listOf rows = record { rows = take (room (length rows)) rows ++ drop (room (length rows)) (replicate 255 noRow); count = length rows }
+listOf rows = record { rows = take (room (length rows)) rows ++ drop (room (length rows)) (replicate mostRows noRow); count = length rows }
 
-unfoldable pub flat : List Row → List ℕ
-flat [] = []
-flat (r ∷ l) = fourOf r ++ flat l
+unfoldable pub told : ℕ → ℕ → ℕ
+told most count = elim (ltb most count) [ true ↦ suc most | false ↦ count ]
 
-unfoldable pub partsOf : List Row → Parts
-partsOf rows = record { symbols = map (λ r. r .symbol) rows; counts = map (λ r. r .count) rows; args = flat rows }
+unfoldable pub least : ℕ → ℕ → ℕ
+least most count = elim (ltb most count) [ true ↦ most | false ↦ count ]
 
--- how many statements are equations is not counted: a closing and a search do not ask
-unfoldable pub spreadOf : Table → Statements → ContextColumns
-spreadOf t s = record {
-  rows = t .count;
-  symbols = map (λ r. r .symbol) (t .rows);
-  counts = map (λ r. r .count) (t .rows);
-  args = flat (t .rows);
-  statements = s .count;
-  kinds = s .kinds;
-  lefts = s .lefts;
-  rights = s .rights;
-  equations = 0;
-  differences = 0;
-}
+-- g 0, g 1, and so on, n pieces
+unfoldable pub joined : (ℕ → List ℕ) → ℕ → List ℕ
+joined g zero = []
+joined g (suc n) = joined g n ++ g n
 
-abbrev pub recordAt : List ℕ → List ℕ → List ℕ → ℕ → Row
-recordAt symbols counts args i = record {
-  symbol = getD symbols i 0;
-  count = getD counts i 0;
-  args = getD args (i * 4) 0 ∷ getD args (i * 4 + 1) 0 ∷ getD args (i * 4 + 2) 0 ∷ getD args (i * 4 + 3) 0 ∷ [];
-}
+abbrev pub rowNumbers : Row → List ℕ
+rowNumbers r = r .symbol ∷ r .count ∷ fourOf r
 
--- the first n
-unfoldable pub recordsFrom : List ℕ → List ℕ → List ℕ → ℕ → List Row
-recordsFrom symbols counts args zero = []
-recordsFrom symbols counts args (suc n) = recordsFrom symbols counts args n ++ (recordAt symbols counts args n ∷ [])
+abbrev pub rowPiece : List Row → ℕ → List ℕ
+rowPiece rows i = rowNumbers (getD rows i noRow)
 
-unfoldable pub gatherOf : ContextColumns → Table
-gatherOf c = record { rows = recordsFrom (c .symbols) (c .counts) (c .args) 255; count = c .rows }
+abbrev pub saidPiece : Statements → ℕ → List ℕ
+saidPiece s i = getD (s .kinds) i 0 ∷ getD (s .lefts) i 0 ∷ getD (s .rights) i 0 ∷ []
 
-unfoldable pub statedIn : ContextColumns → Statements
-statedIn c = record { kinds = c .kinds; lefts = c .lefts; rights = c .rights; count = c .statements }
+-- the four places of row i
+abbrev pub placesAt : List ℕ → ℕ → List ℕ
+placesAt args i =
+    getD args (i * argPlaces) 0 ∷ getD args (i * argPlaces + 1) 0 ∷ getD args (i * argPlaces + 2) 0 ∷ getD args (i * argPlaces + 3) 0 ∷ []
 
--- columns of n rows, as long as that many need where they can hold them
-pub record Holds (rows : List Row) (symbols counts args : List ℕ) (n : ℕ) : Type 0 where
-  pub many : length rows ≡ n
-  pub long : n ≤ 255 → n * 4 ≤ length args
-  pub symbol : (i : ℕ) → i < n → getD symbols i 0 ≡ getD rows i noRow .symbol
-  pub count : (i : ℕ) → i < n → getD counts i 0 ≡ getD rows i noRow .count
-  pub arg : (i k : ℕ) → i < n → k < 4 → getD args (i * 4 + k) 0 ≡ getD (getD rows i noRow .args) k 0
+abbrev pub patternPiece : ClauseColumns → ℕ → List ℕ
+patternPiece k i = getD (k .kinds) i 0 ∷ getD (k .heads) i 0 ∷ getD (k .counts) i 0 ∷ placesAt (k .args) i
+
+abbrev pub literalPiece : ClauseColumns → ℕ → List ℕ
+literalPiece k i = getD (k .signs) i 0 ∷ getD (k .lefts) i 0 ∷ getD (k .rights) i 0 ∷ []
+
+abbrev pub rowsLaid : Table → List ℕ
+rowsLaid t = joined (rowPiece (t .rows)) (told mostRows (t .count))
+
+abbrev pub saidLaid : Statements → List ℕ
+saidLaid s = joined (saidPiece s) (told mostStatements (s .count))
+
+abbrev pub patternsLaid : ClauseColumns → List ℕ
+patternsLaid k = joined (patternPiece k) (told mostPatterns (k .patterns))
+
+abbrev pub literalsLaid : ClauseColumns → List ℕ
+literalsLaid k = joined (literalPiece k) (told mostLiterals (k .literals))
+
+abbrev pub ruleOf : ClauseColumns → Clause
+ruleOf k = clauseOf (patternsLaid k) (literalsLaid k)

@@ -1,3 +1,4 @@
 -- The root of the definitions.
-pub mod Records
+pub mod Claims
 pub mod Layouts
+pub mod Records

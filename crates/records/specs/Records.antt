@@ -2,7 +2,7 @@
 --     noRow        the row that stands past the end
 --     rowOf        what a record says: arguments from the count on are not read
 --     contextOf    and a run of them, beside statements
---     FitRows      a well-formed one, within what columns can hold
+--     FitRows      a well-formed one, within the limits
 -- Assumes nothing.
 use mathlib.Core.List.{List, [], _∷_, map}
 use Prim.Native.Nat.{ℕ, _≤_, _<_}
@@ -11,6 +11,7 @@ use Rattle.meaning.specs.Context as M
 use Rattle.meaning.specs.Context.{Context}
 use Rattle.meaning.specs.Columns.{statementsFrom}
 use Rattle.meaning.specs.Formed.{Fit}
+use Rattle.runs.specs.Limits.{mostRows, mostStatements, argPlaces}
 use Rattle.records.specs.declared.Row.{Row}
 use Rattle.records.specs.declared.Statements.{Statements}
 
@@ -27,7 +28,7 @@ unfoldable pub contextOf : List Row → Statements → Context
 contextOf rows s = record { rows = map rowOf rows; statements = statementsFrom (s .kinds) (s .lefts) (s .rights) (s .count) }
 
 pub record FitRows (rows : List Row) (s : Statements) : Type 0 where
-  pub rows-few : length rows ≤ 255
-  pub statements-few : s .count ≤ 510
-  pub counts-few : (i : ℕ) → i < length rows → getD rows i noRow .count ≤ 4
+  pub rows-few : length rows ≤ mostRows
+  pub statements-few : s .count ≤ mostStatements
+  pub counts-few : (i : ℕ) → i < length rows → getD rows i noRow .count ≤ argPlaces
   pub fit : Fit (contextOf rows s)

@@ -1,67 +1,83 @@
-// The table of a context as records, one for each row, lent together.
-use ledger::ContextColumns;
+// The closing and the finder for callers whose table is records, one for each row, lent together: they are laid out in runs, and the functions
+// over runs do the rest.
+pub mod finding;
+mod laying;
+
+use classes::Classes;
+use finding::Reply;
+use finding::find_runs;
+use laying::literals_run;
+use laying::many;
+use laying::patterns_run;
+use laying::rows_run;
+use laying::said_run;
+use ledger::ClauseColumns;
+use runs::limits::LITERAL;
+use runs::limits::LITERALS;
+use runs::limits::PATTERN;
+use runs::limits::PATTERNS;
+use runs::limits::PLACES;
+use runs::limits::ROW;
+use runs::limits::ROWS;
+use runs::limits::SAID;
+use runs::limits::STATEMENTS;
 ghost use mathlib.Core.List.{_++_};
 ghost use mathlib.Core.Path.{_≡_};
 ghost use Prim.Native.Nat.{_≤_};
 ghost use lib.ListN.{length, take, drop, replicate};
+ghost use Rattle.runs.specs.Limits.{mostRows};
 ghost use Rattle.records.specs.Records.{noRow};
-ghost use Rattle.records.specs.Layouts.{room, listOf, partsOf, spreadOf, gatherOf, statedIn};
+ghost use Rattle.records.specs.Layouts.{room, listOf};
+ghost use Rattle.records.specs.Claims.{ClosedTable, FindsTable, FindsRows, ClosedRows};
 
 // A symbol, how many arguments, and four places for them, of which those from the count on are not read.
 #[repr(C)]
 pub struct Row {
     pub symbol: u16,
     pub count: u8,
-    pub args: [u16; 4],
+    pub args: [u16; PLACES],
 }
 
 // Statements with their kind, 2 or 3, in order; how many.
 #[repr(C)]
 pub struct Statements {
-    pub kinds: [u8; 510],
-    pub lefts: [u16; 510],
-    pub rights: [u16; 510],
+    pub kinds: [u8; STATEMENTS],
+    pub lefts: [u16; STATEMENTS],
+    pub rights: [u16; STATEMENTS],
     pub count: usize,
 }
 
 // Records by value, unused places blank; how many.
 pub struct Table {
-    pub rows: [Row; 255],
+    pub rows: [Row; ROWS],
     pub count: usize,
 }
 
-// The columns of 255 records, four places for each one's arguments.
-pub struct Parts {
-    pub symbols: [u16; 255],
-    pub counts: [u8; 255],
-    pub args: [u16; 1020],
-}
-
-// As many as there is room for: all, or none of more than 255.
+// As many as there is room for: all, or none of too many.
 fn within(n: usize) -> usize
     ensures { λ r. ⌜ r ≡ room n ⌝ }
 {
-    if 255 < n {
+    if ROWS < n {
         return 0;
     }
     n
 }
 
-fn blank() -> [Row; 255]
-    ensures { λ r. ⌜ r ≡ replicate 255 noRow ⌝ }
+fn blank() -> [Row; ROWS]
+    ensures { λ r. ⌜ r ≡ replicate mostRows noRow ⌝ }
 {
     let row = Row {
         symbol: 0,
         count: 0,
-        args: [0; 4],
+        args: [0; PLACES],
     };
-    [row; 255]
+    [row; ROWS]
 }
 
 // The first n places become the first n records.
-fn copied(rows: &[Row], n: usize, to: [Row; 255]) -> [Row; 255]
+fn copied(rows: &[Row], n: usize, to: [Row; ROWS]) -> [Row; ROWS]
     requires { ⌜ n ≤ length (now rows) ⌝ }
-    requires { ⌜ n ≤ 255 ⌝ }
+    requires { ⌜ n ≤ mostRows ⌝ }
     ensures { λ r. ⌜ r ≡ take n (now (rows .entry)) ++ drop n to ⌝ }
 {
     let mut all = to;
@@ -84,93 +100,44 @@ pub fn listed(rows: &[Row]) -> Table
     Table { rows, count }
 }
 
-// Each part of the records in its column.
-fn laid(rows: [Row; 255]) -> Parts
-    ensures { λ r. ⌜ r ≡ partsOf rows ⌝ }
+// The representatives of the rows of a table.
+pub(crate) fn close_table(t: Table, s: Statements) -> Classes
+    ensures closes { λ r. ⌜ ClosedTable t s r ⌝ }
 {
-    let mut symbols = [0u16; 255];
-    let mut counts = [0u8; 255];
-    let mut args = [0u16; 1020];
-    let mut i = 0;
-    while i < 255 {
-        let row = rows[i];
-        symbols[i] = row.symbol;
-        counts[i] = row.count;
-        args[i * 4] = row.args[0];
-        args[i * 4 + 1] = row.args[1];
-        args[i * 4 + 2] = row.args[2];
-        args[i * 4 + 3] = row.args[3];
-        i += 1;
-    }
-    Parts {
-        symbols,
-        counts,
-        args,
-    }
+    let n = many(t.count, ROWS) * ROW;
+    let m = many(s.count, STATEMENTS) * SAID;
+    let rows = rows_run(t);
+    let said = said_run(s);
+    classes::close(&rows[..n], &said[..m])
 }
 
-// The records in columns, beside the statements.
-pub fn spread(t: Table, s: Statements) -> ContextColumns
-    ensures { λ r. ⌜ r ≡ spreadOf t s ⌝ }
+// The first breach of a rule in a table.
+pub(crate) fn find_table(t: Table, s: Statements, k: ClauseColumns) -> Reply
+    ensures finds { λ r. ⌜ FindsTable t s k r ⌝ }
 {
-    let rows = t.rows;
-    let parts = laid(rows);
-    let symbols = parts.symbols;
-    let counts = parts.counts;
-    let args = parts.args;
-    let kinds = s.kinds;
-    let lefts = s.lefts;
-    let rights = s.rights;
-    ContextColumns {
-        rows: t.count,
-        symbols,
-        counts,
-        args,
-        statements: s.count,
-        kinds,
-        lefts,
-        rights,
-        equations: 0,
-        differences: 0,
-    }
+    let n = many(t.count, ROWS) * ROW;
+    let m = many(s.count, STATEMENTS) * SAID;
+    let p = many(k.patterns, PATTERNS) * PATTERN;
+    let q = many(k.literals, LITERALS) * LITERAL;
+    let rows = rows_run(t);
+    let said = said_run(s);
+    let patterns = patterns_run(k);
+    let literals = literals_run(k);
+    find_runs(&rows[..n], &said[..m], &patterns[..p], &literals[..q])
 }
 
-// The rows of columns as records.
-pub fn gathered(c: ContextColumns) -> Table
-    ensures { λ r. ⌜ r ≡ gatherOf c ⌝ }
+// The representatives of the rows, or each place's own number where the records or the statements are not well-formed.
+pub fn close(rows: &[Row], s: Statements) -> Classes
+    ensures closes { λ r. ⌜ ClosedRows (now (rows .entry)) s r ⌝ }
 {
-    let mut rows = blank();
-    let mut i = 0;
-    while i < 255 {
-        let args = [
-            c.args[i * 4],
-            c.args[i * 4 + 1],
-            c.args[i * 4 + 2],
-            c.args[i * 4 + 3],
-        ];
-        rows[i] = Row {
-            symbol: c.symbols[i],
-            count: c.counts[i],
-            args,
-        };
-        i += 1;
-    }
-    let count = c.rows;
-    Table { rows, count }
+    let t = listed(rows);
+    close_table(t, s)
 }
 
-// The statements of columns.
-pub fn stated(c: ContextColumns) -> Statements
-    ensures { λ r. ⌜ r ≡ statedIn c ⌝ }
+// The first breach of a rule, none, refusal 8 or 9, or unfit.
+pub fn find(rows: &[Row], s: Statements, k: ClauseColumns) -> Reply
+    ensures finds { λ r. ⌜ FindsRows (now (rows .entry)) s k r ⌝ }
 {
-    let kinds = c.kinds;
-    let lefts = c.lefts;
-    let rights = c.rights;
-    let count = c.statements;
-    Statements {
-        kinds,
-        lefts,
-        rights,
-        count,
-    }
+    let t = listed(rows);
+    find_table(t, s, k)
 }

@@ -5,11 +5,9 @@ use Rattle.records.proofs.Room.{room-none, room-all}
 use Rattle.records.proofs.within.Statement.{statement}
 use Rattle.records.proofs.within.Tie as tie
 
--- src/lib.rt:38:9
 returns : tie.Need-returns
 returns c = sym (room-none _ (c .if1 .taken))
 
--- src/lib.rt:34:1
 returns-2 : tie.Need-returns-2
 returns-2 c = sym (room-all _ (c .if1 .left))
 

@@ -1,5 +1,5 @@
 -- `boundary::table::checker_find_rows` meets its contract: a walk of its MIR, by hand. The statements and the rule are copied from behind their references, each by one load;
--- `recorded::find` is called with the slice, and `tell` with the reply and the caller's places, which are given up for good. All that the proof knows of the two is that each meets its contract.
+-- `records::find` is called with the slice, and `tell` with the reply and the caller's places, which are given up for good. All that the proof knows of the two is that each meets its contract.
 -- Assumes nothing.
 use mathlib.Core.Path.{refl}
 use Prim.Native.Nat.{ℕ}
@@ -42,20 +42,20 @@ use denote.Exit.{yes}
 use Rattle.ledger.specs.declared.ClauseColumns.{ClauseColumns}
 use Rattle.records.specs.declared.Row.{Row}
 use Rattle.records.specs.declared.Statements.{Statements}
-use Rattle.recorded.specs.declared.Reply.{Reply}
-use Rattle.recorded.specs.Claims.{FindsRows}
+use Rattle.records.specs.declared.finding.Reply.{Reply}
+use Rattle.records.specs.Claims.{FindsRows}
 use Rattle.boundary.specs.Rows.{Told}
 use Rattle.ledger.proofs.ClauseColumns as rule
 use Rattle.ledger.proofs.ClauseColumns.Laws as rule′
 use Rattle.records.proofs.Row as row
 use Rattle.records.proofs.Statements as stmts
 use Rattle.records.proofs.Statements.Laws as stmts′
-use Rattle.recorded.proofs.Reply as reply
-use Rattle.recorded.proofs.Reply.Laws as reply′
-use Rattle.recorded.proofs.find as find
-use Rattle.recorded.proofs.find.Symbol as find-def
-use Rattle.recorded.proofs.find.Symbol.{name as #recorded·find}
-use Rattle.recorded.proofs.find.Met as find-thm
+use Rattle.records.proofs.finding.Reply as reply
+use Rattle.records.proofs.finding.Reply.Laws as reply′
+use Rattle.records.proofs.find as find
+use Rattle.records.proofs.find.Symbol as find-def
+use Rattle.records.proofs.find.Symbol.{name as #records·find}
+use Rattle.records.proofs.find.Met as find-thm
 use Rattle.boundary.proofs.Rows.{answers-rows-found}
 use Rattle.boundary.proofs.table.tell as tell
 use Rattle.boundary.proofs.table.tell.Symbol as tell-def
@@ -187,7 +187,7 @@ module _ {M : Type 1} (𝓤 : URA M) (H : Heap 𝓤) (A : Atoms 𝓤) (W : Given
       -- [true; the result; the last places; O₁; O₂; O₃]
       move ! (2 ∷ 0 ∷ []) $ fjoin ! $ move ! (4 ∷ 0 ∷ []) $ fjoin ! $ move ! (3 ∷ 0 ∷ []) $ fjoin ! $ move ! (2 ∷ 0 ∷ []) $ fjoin ! $ done !
 
-  module _ (C : Calls 𝓤 H) (Λ : Loops 𝓤 H) (fm : FmC 𝓤 H (W .laws) C) (known-find : Triple 𝓤 (C #recorded·find) (Find 𝓤 H A mem run)) (known-tell : Triple 𝓤 (C #boundary·table·tell) (Tell 𝓤 H A mem run)) where
+  module _ (C : Calls 𝓤 H) (Λ : Loops 𝓤 H) (fm : FmC 𝓤 H (W .laws) C) (known-find : Triple 𝓤 (C #records·find) (Find 𝓤 H A mem run)) (known-tell : Triple 𝓤 (C #boundary·table·tell) (Tell 𝓤 H A mem run)) where
     walk : Is (ShrSlice (named 0) κ₀ row.the-row) x₁ (v₁ ∷ []) → ent 𝓤 (onEntry 𝓤 H A asks.signature κs qs a vals) (WpFn 𝓤 H C Λ code.function (v₁ ∷ v₂ ∷ v₃ ∷ v₄ ∷ []) Post)
     walk g =
         via 𝓤 (⋆ 𝓤 H A begun) apart (qed W begun ∵ enter ! C Λ code.function (v₁ ∷ v₂ ∷ v₃ ∷ v₄ ∷ []) _ $
@@ -232,7 +232,7 @@ module _ {M : Type 1} (𝓤 : URA M) (H : Heap 𝓤) (A : Atoms 𝓤) (W : Given
         keep ! (0 ∷ 1 ∷ 2 ∷ 5 ∷ 6 ∷ 7 ∷ 8 ∷ 9 ∷ 10 ∷ []) $ by ! (exits r f n w (zs .1 .0) t))))))))))))))))))))))))
 
 module _ {M : Type 1} (𝓤 : URA M) (H : Heap 𝓤) (A : Atoms 𝓤) (W : Given 𝓤 H A) (mem : Memory → SProp 𝓤) (run : Routine → Fun 𝓤) where
-  asks-walks : (C : Calls 𝓤 H) (Λ : Loops 𝓤 H) → FmC 𝓤 H (W .laws) C → Triple 𝓤 (C #recorded·find) (Find 𝓤 H A mem run) → Triple 𝓤 (C #boundary·table·tell) (Tell 𝓤 H A mem run)
+  asks-walks : (C : Calls 𝓤 H) (Λ : Loops 𝓤 H) → FmC 𝓤 H (W .laws) C → Triple 𝓤 (C #records·find) (Find 𝓤 H A mem run) → Triple 𝓤 (C #boundary·table·tell) (Tell 𝓤 H A mem run)
       → Walks 𝓤 H A asks.ended stayed (WpFn 𝓤 H C Λ code.function) (asks.clauses 𝓤 H A mem run)
   asks-walks C Λ fm known-find known-tell = walked 𝓤 H A asks.ended stayed (asks.clauses 𝓤 H A mem run) (WpFn 𝓤 H C Λ code.function)
       (λ κs. (slice-vals, (ptr-vals, (ptr-vals, (ptr-vals, tt)))))
@@ -250,7 +250,7 @@ module _ {M : Type 1} (𝓤 : URA M) (H : Heap 𝓤) (A : Atoms 𝓤) (W : Given
   )
 
 asks-meets : {M : Type 1} (𝓤 : URA M) (H : Heap 𝓤) (A : Atoms 𝓤) → Given 𝓤 H A → (mem : Memory → SProp 𝓤) (run : Routine → Fun 𝓤) (𝓣 : Tables 𝓤 H)
-    → Triple 𝓤 (𝓣 .C #recorded·find) (Find 𝓤 H A mem run) → Triple 𝓤 (𝓣 .C #boundary·table·tell) (Tell 𝓤 H A mem run)
+    → Triple 𝓤 (𝓣 .C #records·find) (Find 𝓤 H A mem run) → Triple 𝓤 (𝓣 .C #boundary·table·tell) (Tell 𝓤 H A mem run)
     → Meets 𝓤 H A asks.signature (WpFn 𝓤 H (𝓣 .C) (𝓣 .Λ) code.function) (asks.spec 𝓤 H A mem run)
 asks-meets 𝓤 H A W mem run 𝓣 known-find known-tell = walk-meets 𝓤 H A asks.ended stayed W (goes 𝓤 H A W mem run) (asks.clauses 𝓤 H A mem run) (WpFn 𝓤 H (𝓣 .C) (𝓣 .Λ) code.function) (WpFn-mono 𝓤 H (W .laws) 𝓣 code.function)
     (asks-walks 𝓤 H A W mem run (𝓣 .C) (𝓣 .Λ) (fmOf 𝓤 H (W .laws) 𝓣) known-find known-tell)
@@ -261,5 +261,5 @@ checker-find-rows-spec 𝓤 H 𝓜 𝓖 𝓡 =
     entered 𝓤 H (tripleOf 𝓤 H (𝓖 .A) asks.signature (asks.spec 𝓤 H (𝓖 .A) (𝓜 .mem) (𝓡 .run)))
     (tables 𝓤 H 𝓜 𝓡 code.env .C) (tables 𝓤 H 𝓜 𝓡 code.env .Λ) #boundary·table·checker-find-rows code.function (code.unfolded 𝓤 H 𝓜 𝓡)
     (asks-meets 𝓤 H (𝓖 .A) (givenOf 𝓤 H 𝓜 𝓖) (𝓜 .mem) (𝓡 .run) (tablesOf 𝓤 H 𝓜 (tables 𝓤 H 𝓜 𝓡 code.env))
-    (cited 𝓤 H (Find 𝓤 H (𝓖 .A) (𝓜 .mem) (𝓡 .run)) 𝓜 𝓡 code.env #recorded·find find-def.routine code.calls-recorded·find (find-thm.met 𝓤 H 𝓜 𝓖 𝓡))
+    (cited 𝓤 H (Find 𝓤 H (𝓖 .A) (𝓜 .mem) (𝓡 .run)) 𝓜 𝓡 code.env #records·find find-def.routine code.calls-records·find (find-thm.met 𝓤 H 𝓜 𝓖 𝓡))
     (cited 𝓤 H (Tell 𝓤 H (𝓖 .A) (𝓜 .mem) (𝓡 .run)) 𝓜 𝓡 code.env #boundary·table·tell tell-def.routine code.calls-boundary·table·tell (tell-thm.met 𝓤 H 𝓜 𝓖 𝓡)))
