@@ -1,6 +1,10 @@
 // Reads each file that an argument names, and says on a line what the reader answers.
 use libc::STDOUT_FILENO;
-use reader::Answer;
+use runs::limits::LITERAL;
+use runs::limits::PATTERN;
+use runs::limits::ROW;
+use runs::limits::SAID;
+use told::Answer;
 
 fn say(what: &[u8], n: u64) {
     io::write_all(STDOUT_FILENO, what);
@@ -9,8 +13,9 @@ fn say(what: &[u8], n: u64) {
 
 // What the reader answers to one text.
 fn tell(text: &[u8]) {
-    let r = reader::read(text);
+    let r = text_reader::read(text);
     let answer = r.answer;
+    let filled = r.filled;
     match answer {
         Answer::Refused(x) => {
             say(b": refused ", x.number as u64);
@@ -18,10 +23,10 @@ fn tell(text: &[u8]) {
             say(b", byte ", x.offset as u64);
         }
         Answer::Taken => {
-            say(b": rows ", r.context.rows as u64);
-            say(b", statements ", r.context.statements as u64);
-            say(b", pattern rows ", r.clause.patterns as u64);
-            say(b", literals ", r.clause.literals as u64);
+            say(b": rows ", (filled.rows / ROW) as u64);
+            say(b", statements ", (filled.said / SAID) as u64);
+            say(b", pattern rows ", (filled.patterns / PATTERN) as u64);
+            say(b", literals ", (filled.literals / LITERAL) as u64);
         }
     }
     io::write_all(STDOUT_FILENO, b"\n");
