@@ -14,15 +14,15 @@ use Rattle.frames.specs.declared.entries.Termed.the-variants as T
 use Rattle.frames.proofs.Fields.{value-byte}
 
 module _ (text : List ℕ) (at n : ℕ) where
-  pub row-here : (v : ℕ) → v ≡ valueAt text at → v < n → Row v ≡ foundIn n (valueAt text at)
-  row-here v e h = rw (← e, lt-ltb _ _ h)
+  pub row-here : (v w : ℕ) → v ≡ valueAt text at → w ≡ v → w < n → Row v ≡ foundIn n (valueAt text at)
+  row-here v w e f h = rw (← e, lt-ltb v n (omega arith))
 
-  pub row-none : (v : ℕ) → v ≡ valueAt text at → n ≤ v → Missing ≡ foundIn n (valueAt text at)
-  row-none v e h = rw (← e, le-ltb _ _ h)
+  pub row-none : (v w : ℕ) → v ≡ valueAt text at → w ≡ v → n ≤ w → Missing ≡ foundIn n (valueAt text at)
+  row-none v w e f h = rw (← e, le-ltb v n (omega arith))
 
-  pub argument-here : (k count : ℕ) (f : Found) → k < count → f ≡ foundIn n (valueAt text (at + k * 2)) → f ≡ argumentOf text at k count n
+  pub argument-here : (k i count : ℕ) (f : Found) → k < count → i ≡ k → f ≡ foundIn n (valueAt text (at + i * 2)) → f ≡ argumentOf text at k count n
   unfolding argumentOf
-  argument-here k count f h e = rw (lt-ltb _ _ h) e
+  argument-here k i count f h j e = rw (lt-ltb _ _ h) (rw j at e)
 
   pub argument-past : (k count : ℕ) → count ≤ k → Row 0 ≡ argumentOf text at k count n
   unfolding argumentOf

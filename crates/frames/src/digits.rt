@@ -8,23 +8,26 @@ pub enum Digit {
     Not,
 }
 
-// The value of a digit, and 255 for any other byte.
+// What stands for the value of a byte that is no digit.
+const NO_DIGIT: u8 = 255;
+
+// The value of a digit, and that for any other byte.
 pub fn value(b: u8) -> u8
     ensures { λ r. ⌜ r ≡ digit b ⌝ }
 {
     if b < 48 {
-        return 255;
+        return NO_DIGIT;
     }
     if b <= 57 {
         return b - 48;
     }
     if b < 65 {
-        return 255;
+        return NO_DIGIT;
     }
     if b <= 70 {
         return b - 55;
     }
-    255
+    NO_DIGIT
 }
 
 pub(crate) fn digit_of(b: u8) -> Digit

@@ -1,5 +1,7 @@
 // What the fields of a line name, or its refusal, a number and a byte of the line: a row, two rows, or a symbol over rows.
 use super::lines::field;
+use casts::usize_of_u8;
+use casts::usize_of_u16;
 ghost use mathlib.Core.Path.{_≡_};
 ghost use Prim.Native.Nat.{_≤_, _<_, _+_, _*_};
 ghost use lib.ListN.{length};
@@ -41,8 +43,7 @@ pub fn row_at(text: &[u8], at: usize, n: usize) -> Found
     ensures { λ r. ⌜ r ≡ foundIn n (valueAt (now (text .entry)) at) ⌝ }
 {
     let v = field(text, at);
-    let row = v as usize;
-    if row < n {
+    if usize_of_u16(v) < n {
         Found::Row(v)
     } else {
         Found::Missing
@@ -55,8 +56,7 @@ pub(crate) fn argument(text: &[u8], at: usize, k: u8, count: u8, n: usize) -> Fo
     ensures { λ r. ⌜ r ≡ argumentOf (now (text .entry)) at k count n ⌝ }
 {
     if k < count {
-        let i = k as usize;
-        row_at(text, at + i * 2, n)
+        row_at(text, at + usize_of_u8(k) * 2, n)
     } else {
         Found::Row(0)
     }

@@ -2,6 +2,7 @@
 use super::digits::Digit;
 use super::digits::digit_of;
 use super::digits::value;
+use casts::u16_of_u8;
 ghost use mathlib.Core.Path.{_≡_};
 ghost use Prim.Native.Nat.{_≤_, _<_, _+_, min};
 ghost use lib.ListN.{length};
@@ -13,6 +14,9 @@ pub enum Line {
     Ends(usize),
     Bad(u16),
 }
+
+// The furthest byte that a refusal names.
+const FURTHEST: usize = 65535;
 
 // The first place from at on that holds no digit, or the length.
 pub(crate) fn digits_end(text: &[u8], at: usize) -> usize
@@ -33,10 +37,10 @@ pub(crate) fn digits_end(text: &[u8], at: usize) -> usize
 fn bad(n: usize) -> Line
     ensures { λ r. ⌜ r ≡ Line.Bad (min furthest n) ⌝ }
 {
-    if n < 65535 {
+    if n < FURTHEST {
         Line::Bad(n as u16)
     } else {
-        Line::Bad(65535)
+        Line::Bad(FURTHEST as u16)
     }
 }
 
@@ -59,18 +63,12 @@ pub fn line_at(text: &[u8], at: usize) -> Line
     if n % 2 == 0 { Line::Ends(end) } else { bad(n) }
 }
 
-fn wide(x: u8) -> u16
-    ensures { λ r. ⌜ r ≡ x ⌝ }
-{
-    x as u16
-}
-
 // The field whose first digit stands at a place.
 pub fn field(text: &[u8], at: usize) -> u16
     requires { ⌜ at + 1 < length (now text) ⌝ }
     ensures { λ r. ⌜ r ≡ valueAt (now (text .entry)) at ⌝ }
 {
-    let high = wide(value(text[at]));
-    let low = wide(value(text[at + 1]));
+    let high = u16_of_u8(value(text[at]));
+    let low = u16_of_u8(value(text[at + 1]));
     high * 16 + low
 }

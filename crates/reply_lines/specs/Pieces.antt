@@ -1,5 +1,6 @@
 -- A text that is written piece by piece into a lent space.
 --     low8              a number's low byte
+--     mostFields        how many fields a line has at the most
 --     Room, LineRoom    there is room for a piece from a place on, or for a line of some fields
 --     Put               a piece was stored from a place on; nothing else changed, and the next place is behind it
 --     run               some pieces, one after the other
@@ -20,9 +21,12 @@ pub record Put (lent : List ℕ) (at : ℕ) (piece : List ℕ) (next : ℕ) (aft
   pub place : next ≡ at + length piece
   pub stored : after ≡ sets lent at piece
 
--- there is room from a place on for the line of n fields, of which there are eight at most
+abbrev pub mostFields : ℕ
+mostFields = 8
+
+-- there is room from a place on for the line of n fields
 pub record LineRoom (n at : ℕ) (lent : List ℕ) : Type 0 where
-  pub few : n ≤ 8
+  pub few : n ≤ mostFields
   pub room : at + (n * 2 + 1) ≤ length lent
 
 -- n pieces from piece i on

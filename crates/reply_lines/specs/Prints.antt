@@ -1,4 +1,5 @@
--- The line that stands at the front of 32 bytes.
+-- The line that stands at the front of some bytes.
+--     lineSpace how many they are: enough for the line of any reply
 --     Prints    the first bytes are the line, the others 0, and the length is the line's
 --     lineBy    the line of an outcome and the rows of its variables
 -- Assumes nothing.
@@ -12,9 +13,12 @@ use Rattle.replies.specs.declared.Outcome.{Outcome}
 use Rattle.replies.specs.declared.Outcome.the-variants.{Breach, Clear, Refused}
 use Rattle.reply_lines.specs.Pieces.{low8}
 
+abbrev pub lineSpace : ℕ
+lineSpace = 32
+
 pub record Prints (line bytes : List ℕ) (len : ℕ) : Type 0 where
   pub size : len ≡ length line
-  pub front : bytes ≡ line ++ replicate (32 - length line) 0
+  pub front : bytes ≡ line ++ replicate (lineSpace - length line) 0
 
 abbrev pub lineBy : Outcome → List ℕ → List ℕ
 lineBy (Breach n) places = printed (breach (map low8 (take n places)))

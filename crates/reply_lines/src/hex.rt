@@ -7,6 +7,9 @@ ghost use lib.Seq.{sets};
 ghost use Rattle.meaning.specs.Writing.{digitOf, hex, frame};
 ghost use Rattle.reply_lines.specs.Pieces.{low8, Put, LineRoom};
 
+// A line has so many fields at the most.
+pub const FIELDS: usize = 8;
+
 // A number's low byte.
 pub fn low(x: u16) -> u8
     ensures { λ r. ⌜ r ≡ low8 x ⌝ }
@@ -38,7 +41,7 @@ pub fn put_byte(b: u8, lent: &mut [u8], at: usize)
 }
 
 // The line of the first n fields.
-pub fn put_frame(fields: [u8; 8], n: usize, lent: &mut [u8], at: usize) -> usize
+pub fn put_frame(fields: [u8; FIELDS], n: usize, lent: &mut [u8], at: usize) -> usize
     requires { ⌜ LineRoom n at (now lent) ⌝ }
     ensures { λ r. ⌜ Put (now (lent .entry)) at (frame (take n fields)) r (now (lent .exit)) ⌝ }
 {

@@ -1,6 +1,8 @@
 // Lines that are written: the line that a program prints for a reply.
 pub mod hex;
 
+use casts::usize_of_u8;
+use hex::FIELDS;
 use hex::high;
 use hex::low;
 use hex::put_frame;
@@ -16,9 +18,12 @@ ghost use Rattle.replies.specs.Told.{meant};
 ghost use Rattle.reply_lines.specs.Pieces.{low8};
 ghost use Rattle.reply_lines.specs.Prints.{Prints, lineBy};
 
+// Bytes enough for the line of any reply.
+pub const LINE_SPACE: usize = 32;
+
 // The first `len` bytes are the line, and the others are 0.
 pub struct Line {
-    pub bytes: [u8; 32],
+    pub bytes: [u8; LINE_SPACE],
     pub len: usize,
 }
 
@@ -29,11 +34,11 @@ fn least(n: usize, most: usize) -> usize
 }
 
 // The line of some fields, of which there are eight at most.
-pub fn line_of(fields: [u8; 8], n: usize) -> Line
+pub fn line_of(fields: [u8; FIELDS], n: usize) -> Line
     ensures { λ r. ⌜ Prints (frame (take n fields)) (r .bytes) (r .len) ⌝ }
 {
-    let m = least(n, 8);
-    let mut bytes = [0; 32];
+    let m = least(n, FIELDS);
+    let mut bytes = [0; LINE_SPACE];
     let len = put_frame(fields, m, &mut bytes, 0);
     Line { bytes, len }
 }
@@ -98,15 +103,9 @@ pub fn no_line() -> Line
     ensures { λ r. ⌜ Prints [] (r .bytes) (r .len) ⌝ }
 {
     Line {
-        bytes: [0; 32],
+        bytes: [0; LINE_SPACE],
         len: 0,
     }
-}
-
-fn size_of(x: u8) -> usize
-    ensures { λ r. ⌜ r ≡ x ⌝ }
-{
-    x as usize
 }
 
 // A reply.
@@ -114,7 +113,7 @@ pub fn reply_line(outcome: Outcome, places: [u16; 4]) -> Line
     ensures { λ r. ⌜ Prints (lineBy outcome places) (r .bytes) (r .len) ⌝ }
 {
     match outcome {
-        Outcome::Breach(n) => breach_line(size_of(n), places),
+        Outcome::Breach(n) => breach_line(usize_of_u8(n), places),
         Outcome::Clear => none_line(),
         Outcome::Refused(x) => refusal_line(x),
     }

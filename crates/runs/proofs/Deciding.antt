@@ -94,12 +94,16 @@ module _ (run : List ℕ) (at count i : ℕ) where
 
 -- ---- statements and literals
 
-module _ (said : List ℕ) (limit t n k : ℕ) (c : Checked (NamedAt said limit) t n k) where
-  pub named-left : (a : ℕ) → a ≡ leftIn said k → k < n → limit ≤ a → Decides false (Every t (NamedAt said limit))
-  named-left a e h l = checked-fails c h (λ p. omega (arith, p .left, e))
+module _ (said : List ℕ) (limit k a : ℕ) (e : a ≡ leftIn said k) where
+  pub named-left : limit ≤ a → Decides false (NamedAt said limit k)
+  named-left l = decides-false (λ p. omega (arith, p .left))
 
-  pub named-right : (a : ℕ) → a ≡ rightIn said k → k < n → limit ≤ a → Decides false (Every t (NamedAt said limit))
-  named-right a e h l = checked-fails c h (λ p. omega (arith, p .right, e))
+  module _ (b : ℕ) (f : b ≡ rightIn said k) where
+    pub named-right : limit ≤ b → Decides false (NamedAt said limit k)
+    named-right l = decides-false (λ p. omega (arith, p .right))
+
+    pub named-both : a < limit → b < limit → Decides true (NamedAt said limit k)
+    named-both h l = decides-true (record { left = omega arith; right = omega arith })
 
 -- ---- pattern rows
 
@@ -119,4 +123,4 @@ module _ (patterns : List ℕ) (i : ℕ) (r : Bool) where
       let d′ : Decides r (PlacedAt patterns (i * patternSize + 3) (patternCountIn patterns i) i) = rw c at d in
       record { holds = λ y. record { variable = λ q. absurd (not-variable q); symbol = λ _. d′ .holds y }; sure = λ p. d′ .sure (p .symbol not-variable) }
 
-pub ruleset mine = (needs, every-none, placed-many, placed-late, placed-next, placed-read, placed-done, checked-start, checked-not, checked-so, checked-done, named-left, named-right, variable-large, variable-decides, symbol-decides)
+pub ruleset mine = (needs, every-none, placed-many, placed-late, placed-next, placed-read, placed-done, checked-start, checked-not, checked-so, checked-done, named-left, named-right, named-both, variable-large, variable-decides, symbol-decides)

@@ -5,13 +5,19 @@
 --     rowRun .. literalRun          the numbers of the longest runs
 --     unusedPlace                   what stands for no row
 -- Assumes nothing.
-use Prim.Native.Nat.{ℕ, _*_}
+use Prim.Native.Nat.{ℕ, _+_, _*_}
 
 abbrev pub mostRows : ℕ
 mostRows = 255
 
+abbrev pub mostEquations : ℕ
+mostEquations = 255
+
+abbrev pub mostDifferences : ℕ
+mostDifferences = 255
+
 abbrev pub mostStatements : ℕ
-mostStatements = 510
+mostStatements = mostEquations + mostDifferences
 
 abbrev pub mostPatterns : ℕ
 mostPatterns = 64

@@ -61,17 +61,28 @@ fn rows_placed(rows: &[u16]) -> bool
     true
 }
 
-// Whether each statement, or each literal, names rows below a limit.
+// Whether statement k, or literal k, names rows below a limit.
+fn pair_named(said: &[u16], limit: usize, k: usize) -> bool
+    requires { ⌜ k < saidCount (now said) ⌝ }
+    ensures { λ r. ⌜ Decides r (NamedAt (now (said .entry)) limit k) ⌝ }
+{
+    if limit <= left_in(said, k) {
+        return false;
+    }
+    if limit <= right_in(said, k) {
+        return false;
+    }
+    true
+}
+
+// Whether each of them does.
 fn named(said: &[u16], limit: usize) -> bool
     ensures { λ r. ⌜ Decides r (Every (saidCount (now (said .entry))) (NamedAt (now (said .entry)) limit)) ⌝ }
 {
     let n = said_count(said);
     let mut k = 0;
     while k < n {
-        if limit <= left_in(said, k) {
-            return false;
-        }
-        if limit <= right_in(said, k) {
+        if !pair_named(said, limit, k) {
             return false;
         }
         k += 1;

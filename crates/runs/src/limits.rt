@@ -2,7 +2,11 @@
 
 pub const ROWS: usize = 255;
 
-pub const STATEMENTS: usize = 510;
+pub const EQUATIONS: usize = 255;
+
+pub const DIFFERENCES: usize = 255;
+
+pub const STATEMENTS: usize = EQUATIONS + DIFFERENCES;
 
 pub const PATTERNS: usize = 64;
 

@@ -12,7 +12,7 @@ use lib.Dec.{ltb, leb}
 use lib.ListN.{length}
 use borrow.Author.Needs.{needs}
 use borrow.Author.Tests.{le-leb, lt-leb, ltb-true, ltb-false}
-use Rattle.meaning.specs.Context.{Row, Statement, same, differ}
+use Rattle.meaning.specs.Context.{Statement, same, differ}
 use Rattle.meaning.specs.Rules.{variable, apply, Literal, equal, unequal}
 use Rattle.meaning.specs.Text as M
 use Rattle.meaning.specs.Text.{Read, contextRow, equation, difference, variablePattern, symbolPattern, equalLiteral, unequalLiteral, row, statement, pattern, literal, fieldAt, entryOf, known, isListed, listedAs, kinds, sized, ranked, rankOf, refers, noRow, firstFailing, isNowhere, namedBy, namesFrom, tableOf, agrees, rowsOf, patternsOf, countsAgree, testsOf, firstFault}
@@ -26,6 +26,7 @@ use Rattle.frames.specs.declared.entries.Termed.{Termed}
 use Rattle.frames.specs.declared.entries.Termed.the-variants as T
 use Rattle.frames.proofs.Fields.{field-at}
 use Rattle.told.specs.Numbers.{saidNumbers, literalNumbers}
+use Rattle.runs.specs.Limits.{mostRows, mostEquations, mostDifferences, mostPatterns, mostLiterals}
 use Rattle.text_reader.specs.Entries.{pairIn, asSaid, asLiteral, variableIn, termIn, asRow, asSymbol, rowIn, symbolIn}
 use Rattle.text_reader.specs.Kinds.{Looked, fieldsAt, SizeIs, LongBy, meantKind, kindRank}
 use Rattle.text_reader.specs.Lines.{kindIn, entryIn, faultIn, offsetFor, Verdict, Knows, EntryIs}
@@ -46,7 +47,7 @@ use Rattle.text_reader.proofs.Turn.{stopped-first, legible-line, fault-
 -- ---- what the lines of each kind are
 module _ (l : List ℕ) (s : Read) where
   row-kind : s .rank ≤ 1
-      → TermKind l s contextRow (λ f a. row (record { symbol = f; args = a })) (length (rowsOf s)) (ltb (length (rowsOf s)) 255) (λ f m. countsAgree f m s)
+      → TermKind l s contextRow (λ f a. row (record { symbol = f; args = a })) (length (rowsOf s)) (ltb (length (rowsOf s)) mostRows) (λ f m. countsAgree f m s)
   unfolding entryOf ranked rankOf M.room namedBy namesFrom tableOf agrees
   row-kind h =
       record {
@@ -60,7 +61,7 @@ module _ (l : List ℕ) (s : Read) where
       }
 
   symbol-kind : s .rank ≤ 3
-      → TermKind l s symbolPattern (λ f a. pattern (apply f a)) (length (patternsOf s)) (ltb (length (patternsOf s)) 64) (λ f m. countsAgree f m s)
+      → TermKind l s symbolPattern (λ f a. pattern (apply f a)) (length (patternsOf s)) (ltb (length (patternsOf s)) mostPatterns) (λ f m. countsAgree f m s)
   unfolding entryOf ranked rankOf M.room namedBy namesFrom tableOf agrees
   symbol-kind h =
       record {
@@ -73,7 +74,7 @@ module _ (l : List ℕ) (s : Read) where
         agrees = λ f a. refl;
       }
 
-  same-kind : s .rank ≤ 2 → PairKind l s equation (λ p q. statement (same p q)) (length (rowsOf s)) (ltb (s .ledger .equationLines) 255)
+  same-kind : s .rank ≤ 2 → PairKind l s equation (λ p q. statement (same p q)) (length (rowsOf s)) (ltb (s .ledger .equationLines) mostEquations)
   unfolding entryOf ranked rankOf M.room namedBy namesFrom tableOf agrees
   same-kind h =
       record {
@@ -86,7 +87,7 @@ module _ (l : List ℕ) (s : Read) where
         agree = λ p q. refl;
       }
 
-  differ-kind : s .rank ≤ 2 → PairKind l s difference (λ p q. statement (differ p q)) (length (rowsOf s)) (ltb (s .ledger .differenceLines) 255)
+  differ-kind : s .rank ≤ 2 → PairKind l s difference (λ p q. statement (differ p q)) (length (rowsOf s)) (ltb (s .ledger .differenceLines) mostDifferences)
   unfolding entryOf ranked rankOf M.room namedBy namesFrom tableOf agrees
   differ-kind h =
       record {
@@ -99,7 +100,7 @@ module _ (l : List ℕ) (s : Read) where
         agree = λ p q. refl;
       }
 
-  equal-kind : s .rank ≤ 4 → PairKind l s equalLiteral (λ p q. literal (equal p q)) (length (patternsOf s)) (ltb (length (s .clause .literals)) 16)
+  equal-kind : s .rank ≤ 4 → PairKind l s equalLiteral (λ p q. literal (equal p q)) (length (patternsOf s)) (ltb (length (s .clause .literals)) mostLiterals)
   unfolding entryOf ranked rankOf M.room namedBy namesFrom tableOf agrees
   equal-kind h =
       record {
@@ -112,7 +113,7 @@ module _ (l : List ℕ) (s : Read) where
         agree = λ p q. refl;
       }
 
-  unequal-kind : s .rank ≤ 4 → PairKind l s unequalLiteral (λ p q. literal (unequal p q)) (length (patternsOf s)) (ltb (length (s .clause .literals)) 16)
+  unequal-kind : s .rank ≤ 4 → PairKind l s unequalLiteral (λ p q. literal (unequal p q)) (length (patternsOf s)) (ltb (length (s .clause .literals)) mostLiterals)
   unfolding entryOf ranked rankOf M.room namedBy namesFrom tableOf agrees
   unequal-kind h =
       record {
@@ -165,7 +166,7 @@ module _ (text : List ℕ) (at end : ℕ) (so : Read) where
 module _ (text : List ℕ) (at end : ℕ) (g : Legible text at end) (so : Read) (knows : known (fieldsAt text at end) ≡ true)
     (kind : kindIn text at end ≡ variablePattern) (size : sized variablePattern (fieldsAt text at end) ≡ true) (d : end - at ≡ 4) (top : so .rank ≤ 3) where
   abbrev room : Bool
-  room = ltb (length (patternsOf so)) 64
+  room = ltb (length (patternsOf so)) mostPatterns
 
   abbrev v : ℕ
   v = fieldAt (fieldsAt text at end) 1
@@ -272,7 +273,7 @@ module _ (text : List ℕ) (end : ℕ) (s : State) (fs ks : List ℕ) (g : Legib
               verdict = λ so n w.
                   let is = row-kind (fieldsAt text (s .at) end) so (low-as ContextRow h so n) in
                   rw (n .rows)
-                  (row-adds text (s .at) end so _ _ (termIn text (s .at) count (ltb (length (rowsOf so)) 255) (length (rowsOf so)) fs ks (s .terms))
+                  (row-adds text (s .at) end so _ _ (termIn text (s .at) count (ltb (length (rowsOf so)) mostRows) (length (rowsOf so)) fs ks (s .terms))
                   (term-entry text (s .at) end g so contextRow _ _ _ _ knows (kind-as ContextRow h) (size-as ContextRow h) count (long-as ContextRow h) is)
                   (term-verdict text (s .at) end g so contextRow _ _ _ _ knows (kind-as ContextRow h) (size-as ContextRow h) count (long-as ContextRow h) is fs ks (s .terms) (w .agree)));
             }
@@ -283,58 +284,58 @@ module _ (text : List ℕ) (end : ℕ) (s : State) (fs ks : List ℕ) (g : Legib
               verdict = λ so n w.
                   let is = symbol-kind (fieldsAt text (s .at) end) so (low-as SymbolPattern h so n) in
                   rw (n .patterns)
-                  (symbol-adds text (s .at) end so _ _ (termIn text (s .at) count (ltb (length (patternsOf so)) 64) (length (patternsOf so)) fs ks (s .terms))
+                  (symbol-adds text (s .at) end so _ _ (termIn text (s .at) count (ltb (length (patternsOf so)) mostPatterns) (length (patternsOf so)) fs ks (s .terms))
                   (term-entry text (s .at) end g so symbolPattern _ _ _ _ knows (kind-as SymbolPattern h) (size-as SymbolPattern h) count (long-as SymbolPattern h) is)
                   (term-verdict text (s .at) end g so symbolPattern _ _ _ _ knows (kind-as SymbolPattern h) (size-as SymbolPattern h) count (long-as SymbolPattern h) is fs ks (s .terms) (w .agree)));
             }
 
-        pub entry-variable : kind ≡ VariablePattern → r ≡ variableIn text (s .at) (ltb (s .patterns) 64) → EntryIs text end s fs ks r
+        pub entry-variable : kind ≡ VariablePattern → r ≡ variableIn text (s .at) (ltb (s .patterns) mostPatterns) → EntryIs text end s fs ks r
         entry-variable h i =
             rw i record {
               verdict = λ so n w. rw (n .patterns)
                   (variable-adds text (s .at) end g so knows (kind-as VariablePattern h) (size-as VariablePattern h) (long-as VariablePattern h) (low-as VariablePattern h so n));
             }
 
-        pub entry-equation : kind ≡ Equation → r ≡ asSaid 2 (pairIn text (s .at) (ltb (s .equations) 255) (s .rows)) → EntryIs text end s fs ks r
+        pub entry-equation : kind ≡ Equation → r ≡ asSaid 2 (pairIn text (s .at) (ltb (s .equations) mostEquations) (s .rows)) → EntryIs text end s fs ks r
         entry-equation h i =
             rw i record {
               verdict = λ so n w.
                   let is = same-kind (fieldsAt text (s .at) end) so (low-as Equation h so n) in
                   rw (n .rows, n .equations)
-                  (said-adds text (s .at) end so 2 _ _ _ (pairIn text (s .at) (ltb (so .ledger .equationLines) 255) (length (rowsOf so)))
+                  (said-adds text (s .at) end so 2 _ _ _ (pairIn text (s .at) (ltb (so .ledger .equationLines) mostEquations) (length (rowsOf so)))
                   (pair-entry text (s .at) end g so equation _ _ _ knows (kind-as Equation h) (size-as Equation h) (long-as Equation h) is) refl
                   (pair-verdict text (s .at) end g so equation _ _ _ knows (kind-as Equation h) (size-as Equation h) (long-as Equation h) is));
             }
 
-        pub entry-difference : kind ≡ Difference → r ≡ asSaid 3 (pairIn text (s .at) (ltb (s .differences) 255) (s .rows)) → EntryIs text end s fs ks r
+        pub entry-difference : kind ≡ Difference → r ≡ asSaid 3 (pairIn text (s .at) (ltb (s .differences) mostDifferences) (s .rows)) → EntryIs text end s fs ks r
         entry-difference h i =
             rw i record {
               verdict = λ so n w.
                   let is = differ-kind (fieldsAt text (s .at) end) so (low-as Difference h so n) in
                   rw (n .rows, n .differences)
-                  (said-adds text (s .at) end so 3 _ _ _ (pairIn text (s .at) (ltb (so .ledger .differenceLines) 255) (length (rowsOf so)))
+                  (said-adds text (s .at) end so 3 _ _ _ (pairIn text (s .at) (ltb (so .ledger .differenceLines) mostDifferences) (length (rowsOf so)))
                   (pair-entry text (s .at) end g so difference _ _ _ knows (kind-as Difference h) (size-as Difference h) (long-as Difference h) is) refl
                   (pair-verdict text (s .at) end g so difference _ _ _ knows (kind-as Difference h) (size-as Difference h) (long-as Difference h) is));
             }
 
-        pub entry-equal : kind ≡ EqualLiteral → r ≡ asLiteral 6 (pairIn text (s .at) (ltb (s .literals) 16) (s .patterns)) → EntryIs text end s fs ks r
+        pub entry-equal : kind ≡ EqualLiteral → r ≡ asLiteral 6 (pairIn text (s .at) (ltb (s .literals) mostLiterals) (s .patterns)) → EntryIs text end s fs ks r
         entry-equal h i =
             rw i record {
               verdict = λ so n w.
                   let is = equal-kind (fieldsAt text (s .at) end) so (low-as EqualLiteral h so n) in
                   rw (n .patterns, n .literals)
-                  (literal-adds text (s .at) end so 6 _ _ _ (pairIn text (s .at) (ltb (length (so .clause .literals)) 16) (length (patternsOf so)))
+                  (literal-adds text (s .at) end so 6 _ _ _ (pairIn text (s .at) (ltb (length (so .clause .literals)) mostLiterals) (length (patternsOf so)))
                   (pair-entry text (s .at) end g so equalLiteral _ _ _ knows (kind-as EqualLiteral h) (size-as EqualLiteral h) (long-as EqualLiteral h) is) refl
                   (pair-verdict text (s .at) end g so equalLiteral _ _ _ knows (kind-as EqualLiteral h) (size-as EqualLiteral h) (long-as EqualLiteral h) is));
             }
 
-        pub entry-unequal : kind ≡ UnequalLiteral → r ≡ asLiteral 7 (pairIn text (s .at) (ltb (s .literals) 16) (s .patterns)) → EntryIs text end s fs ks r
+        pub entry-unequal : kind ≡ UnequalLiteral → r ≡ asLiteral 7 (pairIn text (s .at) (ltb (s .literals) mostLiterals) (s .patterns)) → EntryIs text end s fs ks r
         entry-unequal h i =
             rw i record {
               verdict = λ so n w.
                   let is = unequal-kind (fieldsAt text (s .at) end) so (low-as UnequalLiteral h so n) in
                   rw (n .patterns, n .literals)
-                  (literal-adds text (s .at) end so 7 _ _ _ (pairIn text (s .at) (ltb (length (so .clause .literals)) 16) (length (patternsOf so)))
+                  (literal-adds text (s .at) end so 7 _ _ _ (pairIn text (s .at) (ltb (length (so .clause .literals)) mostLiterals) (length (patternsOf so)))
                   (pair-entry text (s .at) end g so unequalLiteral _ _ _ knows (kind-as UnequalLiteral h) (size-as UnequalLiteral h) (long-as UnequalLiteral h) is) refl
                   (pair-verdict text (s .at) end g so unequalLiteral _ _ _ knows (kind-as UnequalLiteral h) (size-as UnequalLiteral h) (long-as UnequalLiteral h) is));
             }

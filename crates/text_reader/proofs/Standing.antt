@@ -29,6 +29,7 @@ use Rattle.frames.specs.declared.entries.Pair.{Pair}
 use Rattle.frames.specs.declared.entries.Term.{Term}
 use Rattle.frames.specs.declared.lines.Line.{Line}
 use Rattle.frames.specs.declared.lines.Line.the-variants as L
+use Rattle.runs.specs.Limits.{mostRows, mostEquations, mostDifferences, mostStatements, mostPatterns, mostLiterals}
 use Rattle.runs.specs.Runs as R
 use Rattle.told.specs.Numbers.{rowNumbers, saidNumbers, patternNumbers, literalNumbers}
 use Rattle.replies.specs.declared.Refusal.{Refusal}
@@ -105,16 +106,16 @@ unfolding tallyOf
 tally-differences (same p q) kind e = rw (← e)
 tally-differences (differ p q) kind e = rw (← e)
 
-equations-room : (x : Statement) (s : Read) → s .ledger .equationLines ≤ 255 → M.room narrow (statement x) s ≡ true → s .ledger .equationLines + equationsIn x ≤ 255
+equations-room : (x : Statement) (s : Read) → s .ledger .equationLines ≤ mostEquations → M.room narrow (statement x) s ≡ true → s .ledger .equationLines + equationsIn x ≤ mostEquations
 unfolding M.room
-equations-room (same p q) s h r = omega (arith, ltb-true (s .ledger .equationLines) 255 r)
+equations-room (same p q) s h r = omega (arith, ltb-true (s .ledger .equationLines) mostEquations r)
 equations-room (differ p q) s h r = omega arith
 
-differences-room : (x : Statement) (s : Read) → s .ledger .differenceLines ≤ 255 → M.room narrow (statement x) s ≡ true
-    → s .ledger .differenceLines + differencesIn x ≤ 255
+differences-room : (x : Statement) (s : Read) → s .ledger .differenceLines ≤ mostDifferences → M.room narrow (statement x) s ≡ true
+    → s .ledger .differenceLines + differencesIn x ≤ mostDifferences
 unfolding M.room
 differences-room (same p q) s h r = omega arith
-differences-room (differ p q) s h r = omega (arith, ltb-true (s .ledger .differenceLines) 255 r)
+differences-room (differ p q) s h r = omega (arith, ltb-true (s .ledger .differenceLines) mostDifferences r)
 
 abbrev withStatement : Statement → Read → Read
 withStatement x s =
@@ -130,10 +131,10 @@ put-statement (same p q) s = rw (add-one, add-zero)
 put-statement (differ p q) s = rw (add-zero, add-one)
 
 -- ---- a pattern row is a variable or a symbol
-pattern-room : (x : Pattern) (s : Read) → M.room narrow (pattern x) s ≡ true → length (patternsOf s) < 64
+pattern-room : (x : Pattern) (s : Read) → M.room narrow (pattern x) s ≡ true → length (patternsOf s) < mostPatterns
 unfolding M.room
-pattern-room (variable v) s r = ltb-true (length (patternsOf s)) 64 (and-true-left (ltb (length (patternsOf s)) 64) (leb v 3) r)
-pattern-room (apply f l) s r = ltb-true (length (patternsOf s)) 64 (and-true-left (ltb (length (patternsOf s)) 64) (leb (length l) 4) r)
+pattern-room (variable v) s r = ltb-true (length (patternsOf s)) mostPatterns (and-true-left (ltb (length (patternsOf s)) mostPatterns) (leb v 3) r)
+pattern-room (apply f l) s r = ltb-true (length (patternsOf s)) mostPatterns (and-true-left (ltb (length (patternsOf s)) mostPatterns) (leb (length l) 4) r)
 
 used-plain : (x : Pattern) → patternKind x ≡ 4 → (fs ks : List ℕ) (n : ℕ) (s : Read) → Used fs ks n s → Used fs ks n (put (pattern x) s)
 used-plain (variable v) e fs ks n s u = used-variable fs ks n s u v
@@ -168,7 +169,7 @@ module _ (text : List ℕ) (s : State) (rs ss ps ls fs ks : List ℕ) (h : Stand
         counts = omega (arith, w .terms, w .rows, w .patterns, p .counts);
       }
 
-  line-small : s .line ≤ 846
+  line-small : s .line ≤ mostRows + mostStatements + mostPatterns + mostLiterals + 1
   line-small = let w = h .within in omega (arith, w .lines, w .rows, w .equations, w .differences, w .patterns, w .literals)
 
   pub stop-illegible : (o : ℕ) → Illegible text (s .at) o → (x : Step) → x ≡ N.Refused (record { number = 1; line = s .line; offset = o })
@@ -202,11 +203,11 @@ module _ (text : List ℕ) (s : State) (rs ss ps ls fs ks : List ℕ) (h : Stand
         row-adds : Adds row rowNumbers text (s .at) end (h .so) (termNumbers t)
         row-adds = subst (λ (z : Entry). Verdict text (s .at) end (h .so) z) e verdict
 
-        row-room : s .rows < 255
+        row-room : s .rows < mostRows
         unfolding M.room
         row-room =
             let r = room-of (row (row-adds .made)) (row-adds .fault) (row-adds .entry) in
-            omega (arith, ltb-true (length (rowsOf (h .so))) 255 (and-true-left (ltb (length (rowsOf (h .so))) 255) (leb (length (row-adds .made .args)) 4) r), h .knows .rows)
+            omega (arith, ltb-true (length (rowsOf (h .so))) mostRows (and-true-left (ltb (length (rowsOf (h .so))) mostRows) (leb (length (row-adds .made .args)) 4) r), h .knows .rows)
 
         pub row-notes : NoteFits fs ks (s .terms)
         row-notes =
@@ -287,10 +288,10 @@ module _ (text : List ℕ) (s : State) (rs ss ps ls fs ks : List ℕ) (h : Stand
         room : M.room narrow (statement (said-adds .made)) (h .so) ≡ true
         room = room-of (statement (said-adds .made)) (said-adds .fault) (said-adds .entry)
 
-        few-equations : s .equations + equationsIn (said-adds .made) ≤ 255
+        few-equations : s .equations + equationsIn (said-adds .made) ≤ mostEquations
         few-equations = omega (arith, equations-room (said-adds .made) (h .so) (omega (arith, h .knows .equations, h .within .equations)) room, h .knows .equations)
 
-        few-differences : s .differences + differencesIn (said-adds .made) ≤ 255
+        few-differences : s .differences + differencesIn (said-adds .made) ≤ mostDifferences
         few-differences = omega (arith, differences-room (said-adds .made) (h .so) (omega (arith, h .knows .differences, h .within .differences)) room, h .knows .differences)
 
         one : equationsIn (said-adds .made) + differencesIn (said-adds .made) ≡ 1
@@ -354,7 +355,7 @@ module _ (text : List ℕ) (s : State) (rs ss ps ls fs ks : List ℕ) (h : Stand
 
       -- ---- a pattern row: the state, the symbols noted and the numbers differ by its kind
       module _ (piece : List ℕ) (size : length piece ≡ 7) (a : Adds pattern patternNumbers text (s .at) end (h .so) piece) where
-        pattern-few : s .patterns < 64
+        pattern-few : s .patterns < mostPatterns
         pattern-few = omega (arith, pattern-room (a .made) (h .so) (room-of (pattern (a .made)) (a .fault) (a .entry)), h .knows .patterns)
 
         pattern-fits : PieceFits 7 ps (s .patterns) s
@@ -451,10 +452,10 @@ module _ (text : List ℕ) (s : State) (rs ss ps ls fs ks : List ℕ) (h : Stand
         literal-adds : Adds literal literalNumbers text (s .at) end (h .so) (pairNumbers sign q)
         literal-adds = subst (λ (z : Entry). Verdict text (s .at) end (h .so) z) e verdict
 
-        literal-few : s .literals < 16
+        literal-few : s .literals < mostLiterals
         unfolding M.room
         literal-few =
-            omega (arith, ltb-true (length (h .so .clause .literals)) 16 (room-of (literal (literal-adds .made)) (literal-adds .fault) (literal-adds .entry)), h .knows .literals)
+            omega (arith, ltb-true (length (h .so .clause .literals)) mostLiterals (room-of (literal (literal-adds .made)) (literal-adds .fault) (literal-adds .entry)), h .knows .literals)
 
         pub literal-fits : PieceFits 3 ls (s .literals) s
         literal-fits = record { fits = omega (arith, literal-few, h .space .literals); line = omega (arith, line-small) }

@@ -9,7 +9,7 @@ use mathlib.Core.Path.{_≡_}
 use Prim.Native.Nat.{ℕ, suc, _+_, _*_, _≤_}
 use lib.Dec.{eqb}
 use Rattle.frames.specs.Choice.{choose}
-use Rattle.runs.specs.Limits.{mostRows, mostPatterns, mostLiterals, rowSize, saidSize, patternSize, literalSize}
+use Rattle.runs.specs.Limits.{mostRows, mostEquations, mostDifferences, mostPatterns, mostLiterals, rowSize, saidSize, patternSize, literalSize}
 use Rattle.told.specs.declared.Filled.{Filled}
 use Rattle.text_reader.specs.declared.state.State.{State}
 
@@ -99,8 +99,8 @@ afterLiteral s = record {
 
 pub record Within (s : State) : Type 0 where
   pub rows : s .rows ≤ mostRows
-  pub equations : s .equations ≤ 255
-  pub differences : s .differences ≤ 255
+  pub equations : s .equations ≤ mostEquations
+  pub differences : s .differences ≤ mostDifferences
   pub patterns : s .patterns ≤ mostPatterns
   pub literals : s .literals ≤ mostLiterals
   pub terms : s .terms ≤ s .rows + s .patterns

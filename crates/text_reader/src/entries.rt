@@ -17,6 +17,8 @@ use frames::entries::Termed;
 use frames::entries::row_at;
 use frames::entries::term_of;
 use frames::lines::field;
+use runs::limits::DIFFERENCES;
+use runs::limits::EQUATIONS;
 use runs::limits::LITERALS;
 use runs::limits::PATTERNS;
 use runs::limits::PLACES;
@@ -30,11 +32,6 @@ ghost use Rattle.frames.specs.Entries.{TermLine};
 ghost use Rattle.text_reader.specs.Agree.{Noted};
 ghost use Rattle.text_reader.specs.Entries.{pairIn, termIn, variableIn, asSaid, asLiteral, rowIn, symbolIn};
 ghost use Rattle.text_reader.specs.Lines.{EntryIs};
-
-// At most so many equations, and so many differences.
-const EQUATIONS: usize = 255;
-
-const DIFFERENCES: usize = 255;
 
 // A statement with its kind, 2 or 3, and a literal with its sign, 6 or 7.
 pub(crate) enum Entry {

@@ -7,8 +7,8 @@ use Rattle.reply_lines.proofs.reply_line.Tie as tie
 enum-known-outcome : tie.Need-enum-known-outcome
 enum-known-outcome c = search mine
 
-size-of-requires : tie.Need-size-of-requires
-size-of-requires c κs = search mine
+usize-of-u8-requires : tie.Need-usize-of-u8-requires
+usize-of-u8-requires c κs = search mine
 
 breach-line-requires : tie.Need-breach-line-requires
 breach-line-requires c κs = search mine
@@ -39,7 +39,7 @@ reply-line-spec =
     tie.close
     (tie.spec
     enum-known-outcome
-    size-of-requires
+    usize-of-u8-requires
     breach-line-requires
     enum-told
     none-line-requires

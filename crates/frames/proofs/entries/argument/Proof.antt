@@ -4,6 +4,9 @@ use Rattle.frames.proofs.Ways.{mine}
 use Rattle.frames.proofs.entries.argument.Statement.{statement}
 use Rattle.frames.proofs.entries.argument.Tie as tie
 
+usize-of-u8-requires : tie.Need-usize-of-u8-requires
+usize-of-u8-requires c κs = search mine
+
 mul-row-at : tie.Need-mul-row-at
 mul-row-at c = search mine
 
@@ -20,4 +23,4 @@ returns-2 : tie.Need-returns-2
 returns-2 c = search mine
 
 pub argument-spec : {M : Type 1} → statement M
-argument-spec = tie.close (tie.spec mul-row-at add-row-at row-at-requires returns returns-2)
+argument-spec = tie.close (tie.spec usize-of-u8-requires mul-row-at add-row-at row-at-requires returns returns-2)

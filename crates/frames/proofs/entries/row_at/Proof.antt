@@ -7,8 +7,8 @@ use Rattle.frames.proofs.entries.row_at.Tie as tie
 field-requires : tie.Need-field-requires
 field-requires c κs = search mine
 
-cast-row : tie.Need-cast-row
-cast-row c = search mine
+usize-of-u16-requires : tie.Need-usize-of-u16-requires
+usize-of-u16-requires c κs = search mine
 
 returns : tie.Need-returns
 returns c = search mine
@@ -17,4 +17,4 @@ returns-2 : tie.Need-returns-2
 returns-2 c = search mine
 
 pub row-at-spec : {M : Type 1} → statement M
-row-at-spec = tie.close (tie.spec field-requires cast-row returns returns-2)
+row-at-spec = tie.close (tie.spec field-requires usize-of-u16-requires returns returns-2)

@@ -7,6 +7,9 @@ use Rattle.frames.proofs.lines.bad.Tie as tie
 cast-t4 : tie.Need-cast-t4
 cast-t4 c = search mine
 
+cast-t5 : tie.Need-cast-t5
+cast-t5 c = search mine
+
 returns : tie.Need-returns
 returns c = search mine
 
@@ -14,4 +17,4 @@ returns-2 : tie.Need-returns-2
 returns-2 c = search mine
 
 pub bad-spec : {M : Type 1} → statement M
-bad-spec = tie.close (tie.spec cast-t4 returns returns-2)
+bad-spec = tie.close (tie.spec cast-t4 cast-t5 returns returns-2)

@@ -10,8 +10,8 @@ shared-slice-read-value c = search mine
 value-requires : tie.Need-value-requires
 value-requires c κs = search mine
 
-wide-requires : tie.Need-wide-requires
-wide-requires c κs = search mine
+u16-of-u8-requires : tie.Need-u16-of-u8-requires
+u16-of-u8-requires c κs = search mine
 
 add-value : tie.Need-add-value
 add-value c = search mine
@@ -22,8 +22,8 @@ shared-slice-read-value-2 c = search mine
 value-requires-2 : tie.Need-value-requires-2
 value-requires-2 c κs = search mine
 
-wide-requires-2 : tie.Need-wide-requires-2
-wide-requires-2 c κs = search mine
+u16-of-u8-requires-2 : tie.Need-u16-of-u8-requires-2
+u16-of-u8-requires-2 c κs = search mine
 
 mul-result : tie.Need-mul-result
 mul-result c = search mine
@@ -40,11 +40,11 @@ field-spec =
     (tie.spec
     shared-slice-read-value
     value-requires
-    wide-requires
+    u16-of-u8-requires
     add-value
     shared-slice-read-value-2
     value-requires-2
-    wide-requires-2
+    u16-of-u8-requires-2
     mul-result
     add-result
     returns)

@@ -1,10 +1,9 @@
 -- `runs::fit::named` meets its contract. The invariant: the first k statements name rows below the limit. The measure is how many are left.
 -- Assumes nothing.
 use Prim.Native.Nat.{_-_}
-use native.Mathlib.Omega.{arith}
 use Rattle.runs.specs.Runs.{saidCount}
 use Rattle.runs.specs.Fit.{NamedAt}
-use Rattle.runs.proofs.Deciding.{Checked, checked-next, mine}
+use Rattle.runs.proofs.Deciding.{Checked, mine}
 use Rattle.runs.proofs.fit.named.Statement.{statement}
 use Rattle.runs.proofs.fit.named.Tie as tie
 
@@ -20,17 +19,11 @@ said-count-requires c κs = search mine
 loop-holds : tie.Need-loop-holds Inv-loop μ-loop
 loop-holds c = search mine
 
-left-in-requires : tie.Need-left-in-requires Inv-loop μ-loop
-left-in-requires c κs = search mine
+pair-named-requires : tie.Need-pair-named-requires Inv-loop μ-loop
+pair-named-requires c κs = search mine
 
 returns : tie.Need-returns Inv-loop μ-loop
 returns c = search mine
-
-right-in-requires : tie.Need-right-in-requires Inv-loop μ-loop
-right-in-requires c κs = search mine
-
-returns-2 : tie.Need-returns-2 Inv-loop μ-loop
-returns-2 c = search mine
 
 add-k : tie.Need-add-k Inv-loop μ-loop
 add-k c = search mine
@@ -39,10 +32,10 @@ loop-less : tie.Need-loop-less Inv-loop μ-loop
 loop-less c = search mine
 
 loop-again : tie.Need-loop-again Inv-loop μ-loop
-loop-again c = checked-next (c .before .before .before .before .before .loop .inv) (record { left = omega arith; right = omega arith })
+loop-again c = search mine
 
-returns-3 : tie.Need-returns-3 Inv-loop μ-loop
-returns-3 c = search mine
+returns-2 : tie.Need-returns-2 Inv-loop μ-loop
+returns-2 c = search mine
 
 pub named-spec : {M : Type 1} → statement M
 named-spec =
@@ -52,11 +45,9 @@ named-spec =
     μ-loop
     said-count-requires
     loop-holds
-    left-in-requires
+    pair-named-requires
     returns
-    right-in-requires
-    returns-2
     add-k
     loop-less
     loop-again
-    returns-3)
+    returns-2)
