@@ -7,7 +7,8 @@ use mathlib.Core.Path.{_≡_, refl}
 use Rattle.meaning.specs.Text.{Line, linesOf, linesFrom, digit}
 use Rattle.meaning.specs.Sheet.{bytes}
 use Rattle.meaning.specs.Grounds.{Conclusion}
-use Rattle.intake.specs.Parsing.{allDigits, goodLine, digitsOf, byteOf, twoOf, fourOf, eightOf, formed, wordOf, conclusionOf, wordsIn, conclusionsIn}
+use Rattle.grounds_steps.specs.Steps.{wordsOf}
+use Rattle.intake.specs.Parsing.{allDigits, goodLine, digitsOf, byteOf, twoOf, fourOf, eightOf, formed, wordOf, conclusionOf, stepsIn, conclusionsIn}
 
 -- literal 2 by step 8 and difference 1
 abbrev shown : List Conclusion
@@ -24,6 +25,6 @@ some-unread = refl
 abbrev lettered : List Line
 lettered = linesOf (bytes "B10200000008FFFFFFFF0001FG\n")
 
-pub no-letter : (conclusionsIn lettered ≡ []) × (wordsIn 0 lettered ≡ 0 ∷ [])
-unfolding bytes linesOf linesFrom digit allDigits goodLine digitsOf byteOf twoOf fourOf eightOf formed wordOf conclusionOf wordsIn conclusionsIn
+pub no-letter : (conclusionsIn lettered ≡ []) × (stepsIn lettered ≡ wordsOf 0 0 0 ∷ [])
+unfolding bytes linesOf linesFrom digit allDigits goodLine digitsOf byteOf twoOf fourOf eightOf formed wordOf conclusionOf stepsIn conclusionsIn
 no-letter = (refl, refl)

@@ -40,12 +40,13 @@ zeros-at zero j = refl
 zeros-at (suc n) zero = refl
 zeros-at (suc n) (suc j) = zeros-at n j
 
-pub record Stored (most : ℕ) (space l : List ℕ) : Type 0 where
+-- read with something where there is nothing
+pub record Stored {A : Type 0} (d : A) (most : ℕ) (space l : List A) : Type 0 where
   pub room : most ≤ length space
-  pub at : (j : ℕ) → j < most → j < length l → getD space j 0 ≡ getD l j 0
+  pub at : (j : ℕ) → j < most → j < length l → getD space j d ≡ getD l j d
 
-pub stored-more : (most : ℕ) (space l : List ℕ) (size b : ℕ) → Sized (most + 1) (length l) size → Stored most space l → Stored most (set space size b) (l ++ (b ∷ []))
-stored-more most space l size b s w = record { room = omega (arith, length-set space size b, w .room); at = at }
+pub stored-more : {A : Type 0} (d : A) (most : ℕ) (space l : List A) (size : ℕ) (b : A) → Sized (most + 1) (length l) size → Stored d most space l → Stored d most (set space size b) (l ++ (b ∷ []))
+stored-more d most space l size b s w = record { room = omega (arith, length-set space size b, w .room); at = at }
   where
     before : (j : ℕ) → j < most → j < length l → j ≡ size → ⊥
     before j h k e = go (ltb (length l) (most + 1)) refl
@@ -54,26 +55,26 @@ stored-more most space l size b s w = record { room = omega (arith, length-set s
         go true q = omega (arith, s .exact (ltb-true (length l) (most + 1) q))
         go false q = omega (arith, s .full (ltb-false (length l) (most + 1) q))
 
-    at : (j : ℕ) → j < most → j < length (l ++ (b ∷ [])) → getD (set space size b) j 0 ≡ getD (l ++ (b ∷ [])) j 0
+    at : (j : ℕ) → j < most → j < length (l ++ (b ∷ [])) → getD (set space size b) j d ≡ getD (l ++ (b ∷ [])) j d
     at j h k = go (ltb j (length l)) refl
       where
-        go : (c : Bool) → ltb j (length l) ≡ c → getD (set space size b) j 0 ≡ getD (l ++ (b ∷ [])) j 0
+        go : (c : Bool) → ltb j (length l) ≡ c → getD (set space size b) j d ≡ getD (l ++ (b ∷ [])) j d
         go true q =
             let i : j < length l = ltb-true j (length l) q in
-            getD-set-other space size j b 0 (before j h i) ∙ w .at j h i ∙ sym (List·getD-append l (b ∷ []) 0 j i)
+            getD-set-other space size j b d (before j h i) ∙ w .at j h i ∙ sym (List·getD-append l (b ∷ []) d j i)
         go false q =
             let e : j ≡ length l = omega (arith, ltb-false j (length l) q, length-append l (b ∷ [])) in
             let f : size ≡ length l = s .exact (omega arith) in
-            ap (λ (x : ℕ). getD (set space size b) x 0) (e ∙ sym f)
-            ∙ getD-set-same space size b 0 (omega (arith, w .room))
-            ∙ sym (ap (λ (x : ℕ). getD (l ++ (b ∷ [])) x 0) e ∙ getD-append-seam l b [] 0)
+            ap (λ (x : ℕ). getD (set space size b) x d) (e ∙ sym f)
+            ∙ getD-set-same space size b d (omega (arith, w .room))
+            ∙ sym (ap (λ (x : ℕ). getD (l ++ (b ∷ [])) x d) e ∙ getD-append-seam l b [] d)
 
-pub stored-front : (most : ℕ) (space l r : List ℕ) → Stored most space (l ++ r) → Stored most space l
-stored-front most space l r w =
-    record { room = w .room; at = λ j h k. w .at j h (omega (arith, length-append l r)) ∙ List·getD-append l r 0 j k }
+pub stored-front : {A : Type 0} (d : A) (most : ℕ) (space l r : List A) → Stored d most space (l ++ r) → Stored d most space l
+stored-front d most space l r w =
+    record { room = w .room; at = λ j h k. w .at j h (omega (arith, length-append l r)) ∙ List·getD-append l r d j k }
 
-pub stored-all : (most : ℕ) (space l : List ℕ) (size : ℕ) → Sized (most + 1) (length l) size → Stored most space l → size ≤ most → take size space ≡ l
-stored-all most space l size s w h = ext-getD 0 (take size space) l (long ∙ same) at
+pub stored-all : {A : Type 0} (d : A) (most : ℕ) (space l : List A) (size : ℕ) → Sized (most + 1) (length l) size → Stored d most space l → size ≤ most → take size space ≡ l
+stored-all d most space l size s w h = ext-getD d (take size space) l (long ∙ same) at
   where
     long : length (take size space) ≡ size
     long = length-take-le size space (omega (arith, w .room))
@@ -85,5 +86,5 @@ stored-all most space l size s w h = ext-getD 0 (take size space) l (long ∙ sa
         go true q = s .exact (ltb-true (length l) (most + 1) q)
         go false q = absurd (omega (arith, s .full (ltb-false (length l) (most + 1) q)))
 
-    at : (j : ℕ) → j < length (take size space) → getD (take size space) j 0 ≡ getD l j 0
-    at j k = getD-take size space j 0 (omega (arith, long)) ∙ w .at j (omega (arith, long)) (omega (arith, long, same))
+    at : (j : ℕ) → j < length (take size space) → getD (take size space) j d ≡ getD l j d
+    at j k = getD-take size space j d (omega (arith, long)) ∙ w .at j (omega (arith, long)) (omega (arith, long, same))

@@ -5,3 +5,4 @@ pub mod Lined
 pub mod Noting
 pub mod Standing
 pub mod Controls
+pub mod Columns

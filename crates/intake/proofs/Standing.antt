@@ -1,5 +1,4 @@
 -- What the parser holds after some bytes is what the definitions read off them.
---     words-long                          each line that is no conclusion gives a word to each column
 --     Stands                              a memory holds what the bytes so far say
 --     stands-start, stands-taken, stands-fed    at the start, after one byte more, after some
 --     Parsed, parsed                      what it holds after the last byte
@@ -15,8 +14,11 @@ use lib.ListN.{length, drop, set, replicate, length-append}
 use lib.Seq.{drop-append-seam, drop-length}
 use Rattle.meaning.specs.Text.{Line, linesFrom, linesOf}
 use Rattle.meaning.specs.Grounds.{Conclusion}
+use Rattle.meaning.specs.Replies.{inputLimit}
+use Rattle.runs.specs.Limits.{mostVariables, unusedPlace}
+use Rattle.grounds_steps.specs.Steps.{wordsOf, mostSteps}
 use Rattle.frames.proofs.Breaks.{from-cons, feed-ends}
-use Rattle.intake.specs.Parsing.{begins, textPart, textOf, groundLines, goodLine, digitsOf, assigns, placeOf, placesOf, placesIn, formed, wordOf, wordsIn, concludes, conclusionOf, conclusionsIn}
+use Rattle.intake.specs.Parsing.{begins, textPart, textOf, groundLines, goodLine, digitsOf, assigns, placeOf, placesOf, placesIn, formed, wordOf, stepWords, stepsIn, concludes, conclusionOf, conclusionsIn}
 use Rattle.intake.specs.Machine.{grown, phaseAfter, endAfter, startAfter, headAfter, openLine, withHead, withByte, withPlaces, withConclusion, withStep, unended, noted, fresh, Memory, memory, afterStep, afterLine, taken, fed, finished}
 use Rattle.intake.specs.declared.Head.{Head}
 use Rattle.intake.specs.declared.Buffer.{Buffer}
@@ -28,15 +30,18 @@ use Rattle.intake.proofs.Noting.{Notes, notes-none, notes-more}
 
 -- ---- lines one by one
 
-snoc-words : (i : ℕ) (ls : List Line) (l : Line) → wordsIn i (ls ++ (l ∷ [])) ≡ wordsIn i ls ++ wordsIn i (l ∷ [])
-unfolding wordsIn
-snoc-words i [] l = refl
-snoc-words i (k ∷ ls) l = go (concludes k) refl (snoc-words i ls l)
+abbrev lineWords : Line → List ℕ
+lineWords l = stepWords (goodLine l) (length (l .bytes)) (digitsOf l)
+
+snoc-steps : (ls : List Line) (l : Line) → stepsIn (ls ++ (l ∷ [])) ≡ stepsIn ls ++ stepsIn (l ∷ [])
+unfolding stepsIn
+snoc-steps [] l = refl
+snoc-steps (k ∷ ls) l = go (concludes k) refl (snoc-steps ls l)
   where
-    go : (c : Bool) → concludes k ≡ c → wordsIn i (ls ++ (l ∷ [])) ≡ wordsIn i ls ++ wordsIn i (l ∷ [])
-        → wordsIn i (k ∷ (ls ++ (l ∷ []))) ≡ wordsIn i (k ∷ ls) ++ wordsIn i (l ∷ [])
+    go : (c : Bool) → concludes k ≡ c → stepsIn (ls ++ (l ∷ [])) ≡ stepsIn ls ++ stepsIn (l ∷ [])
+        → stepsIn (k ∷ (ls ++ (l ∷ []))) ≡ stepsIn (k ∷ ls) ++ stepsIn (l ∷ [])
     go true e ih = rw e ih
-    go false e ih = rw e (ap (λ (x : List ℕ). wordOf (goodLine k) (length (k .bytes)) (digitsOf k) i ∷ x) ih)
+    go false e ih = rw e (ap (λ (x : List (List ℕ)). lineWords k ∷ x) ih)
 
 snoc-conclusions : (ls : List Line) (l : Line) → conclusionsIn (ls ++ (l ∷ [])) ≡ conclusionsIn ls ++ conclusionsIn (l ∷ [])
 unfolding conclusionsIn
@@ -48,28 +53,19 @@ snoc-conclusions (k ∷ ls) l = go (concludes k) refl (snoc-conclusions ls l)
     go true e ih = rw e (ap (λ (x : List Conclusion). conclusionOf (digitsOf k) ∷ x) ih)
     go false e ih = rw e ih
 
-pub words-long : (i : ℕ) (ls : List Line) → length (wordsIn i ls) ≡ length (wordsIn 0 ls)
-unfolding wordsIn
-words-long i [] = refl
-words-long i (k ∷ ls) = go (concludes k) refl (words-long i ls)
-  where
-    go : (c : Bool) → concludes k ≡ c → length (wordsIn i ls) ≡ length (wordsIn 0 ls) → length (wordsIn i (k ∷ ls)) ≡ length (wordsIn 0 (k ∷ ls))
-    go true e ih = rw e ih
-    go false e ih = rw e (ap suc ih)
-
 -- one conclusion, or one step
 module _ (l : Line) where
-  hit-words : concludes l ≡ true → (i : ℕ) → wordsIn i (l ∷ []) ≡ []
-  unfolding wordsIn
-  hit-words e i = rw e
+  hit-steps : concludes l ≡ true → stepsIn (l ∷ []) ≡ []
+  unfolding stepsIn
+  hit-steps e = rw e
 
   hit-conclusions : concludes l ≡ true → conclusionsIn (l ∷ []) ≡ conclusionOf (digitsOf l) ∷ []
   unfolding conclusionsIn
   hit-conclusions e = rw e
 
-  miss-words : concludes l ≡ false → (i : ℕ) → wordsIn i (l ∷ []) ≡ wordOf (goodLine l) (length (l .bytes)) (digitsOf l) i ∷ []
-  unfolding wordsIn
-  miss-words e i = rw e
+  miss-steps : concludes l ≡ false → stepsIn (l ∷ []) ≡ lineWords l ∷ []
+  unfolding stepsIn
+  miss-steps e = rw e
 
   miss-conclusions : concludes l ≡ false → conclusionsIn (l ∷ []) ≡ []
   unfolding conclusionsIn
@@ -78,48 +74,35 @@ module _ (l : Line) where
 -- ---- what later lines leave behind
 
 pub record Gathered (ls : List Line) (m : Memory) : Type 0 where
-  pub counted : Sized 278529 (length (wordsIn 0 ls)) (m .parser .steps)
-  pub firsts : Stored 278528 (m .firsts) (wordsIn 0 ls)
-  pub seconds : Stored 278528 (m .seconds) (wordsIn 1 ls)
-  pub thirds : Stored 278528 (m .thirds) (wordsIn 2 ls)
+  pub counted : Sized (mostSteps + 1) (length (stepsIn ls)) (m .parser .steps)
+  pub stored : Stored [] mostSteps (m .steps) (stepsIn ls)
   pub notes : Notes (m .parser .noted) (conclusionsIn ls)
 
 module _ (ls : List Line) (l : Line) (m : Memory) (w : Gathered ls m) where
   gathered-conclusion : (p : Parser) → concludes l ≡ true → p .steps ≡ m .parser .steps → p .noted ≡ noted (m .parser .noted) (digitsOf l)
-      → Gathered (ls ++ (l ∷ [])) (memory p (m .text) (m .firsts) (m .seconds) (m .thirds))
+      → Gathered (ls ++ (l ∷ [])) (memory p (m .text) (m .steps))
   gathered-conclusion p e s n =
       record {
-        counted = rw (kept 0, s) (w .counted);
-        firsts = rw (kept 0) (w .firsts);
-        seconds = rw (kept 1) (w .seconds);
-        thirds = rw (kept 2) (w .thirds);
+        counted = rw (kept, s) (w .counted);
+        stored = rw kept (w .stored);
         notes = rw (snoc-conclusions ls l ∙ ap (λ (x : List Conclusion). conclusionsIn ls ++ x) (hit-conclusions l e), n) (notes-more (m .parser .noted) (conclusionsIn ls) (w .notes) (digitsOf l));
       }
     where
-      kept : (i : ℕ) → wordsIn i (ls ++ (l ∷ [])) ≡ wordsIn i ls
-      kept i = snoc-words i ls l ∙ ap (λ (x : List ℕ). wordsIn i ls ++ x) (hit-words l e i) ∙ append-nil (wordsIn i ls)
+      kept : stepsIn (ls ++ (l ∷ [])) ≡ stepsIn ls
+      kept = snoc-steps ls l ∙ ap (λ (x : List (List ℕ)). stepsIn ls ++ x) (hit-steps l e) ∙ append-nil (stepsIn ls)
 
-  gathered-step : (p : Parser) (x y z : ℕ) → concludes l ≡ false → x ≡ wordOf (goodLine l) (length (l .bytes)) (digitsOf l) 0
-      → y ≡ wordOf (goodLine l) (length (l .bytes)) (digitsOf l) 1
-      → z ≡ wordOf (goodLine l) (length (l .bytes)) (digitsOf l) 2
-      → p .steps ≡ grown (m .parser .steps) 278529
+  gathered-step : (p : Parser) (words : List ℕ) → concludes l ≡ false → words ≡ lineWords l → p .steps ≡ grown (m .parser .steps) (mostSteps + 1)
       → p .noted ≡ m .parser .noted
-      → Gathered (ls ++ (l ∷ []))
-      (memory p (m .text) (set (m .firsts) (m .parser .steps) x) (set (m .seconds) (m .parser .steps) y) (set (m .thirds) (m .parser .steps) z))
-  gathered-step p x y z e ex ey ez s n =
+      → Gathered (ls ++ (l ∷ [])) (memory p (m .text) (set (m .steps) (m .parser .steps) words))
+  gathered-step p words e ew s n =
       record {
-        counted = rw (more 0, s, length-append (wordsIn 0 ls) (wordOf (goodLine l) (length (l .bytes)) (digitsOf l) 0 ∷ [])) (sized-more 278529 (length (wordsIn 0 ls)) (m .parser .steps) (w .counted));
-        firsts = rw (more 0, ex) (stored-more 278528 (m .firsts) (wordsIn 0 ls) (m .parser .steps) _ (sized 0) (w .firsts));
-        seconds = rw (more 1, ey) (stored-more 278528 (m .seconds) (wordsIn 1 ls) (m .parser .steps) _ (sized 1) (w .seconds));
-        thirds = rw (more 2, ez) (stored-more 278528 (m .thirds) (wordsIn 2 ls) (m .parser .steps) _ (sized 2) (w .thirds));
+        counted = rw (more, s, length-append (stepsIn ls) (lineWords l ∷ [])) (sized-more (mostSteps + 1) (length (stepsIn ls)) (m .parser .steps) (w .counted));
+        stored = rw (more, ew) (stored-more [] mostSteps (m .steps) (stepsIn ls) (m .parser .steps) (lineWords l) (w .counted) (w .stored));
         notes = rw (snoc-conclusions ls l ∙ ap (λ (d : List Conclusion). conclusionsIn ls ++ d) (miss-conclusions l e) ∙ append-nil (conclusionsIn ls), n) (w .notes);
       }
     where
-      more : (i : ℕ) → wordsIn i (ls ++ (l ∷ [])) ≡ wordsIn i ls ++ (wordOf (goodLine l) (length (l .bytes)) (digitsOf l) i ∷ [])
-      more i = snoc-words i ls l ∙ ap (λ (d : List ℕ). wordsIn i ls ++ d) (miss-words l e i)
-
-      sized : (i : ℕ) → Sized 278529 (length (wordsIn i ls)) (m .parser .steps)
-      sized i = rw (words-long i ls) (w .counted)
+      more : stepsIn (ls ++ (l ∷ [])) ≡ stepsIn ls ++ (lineWords l ∷ [])
+      more = snoc-steps ls l ∙ ap (λ (d : List (List ℕ)). stepsIn ls ++ d) (miss-steps l e)
 
 -- ---- the text part
 
@@ -174,7 +157,7 @@ waits-on done t b k e f g rest =
 -- where in the text the parser stands
 pub data Reading (done : List ℕ) (h : Head) : Type 0 where
   at-start : h .phase ≡ 0 → h .start ≡ h .size → Goes done true → Reading done h
-  after-zero : h .phase ≡ 1 → (t : List ℕ) → done ≡ t ++ (48 ∷ []) → Sized 16385 (length t) (h .start) → Waits done t → Reading done h
+  after-zero : h .phase ≡ 1 → (t : List ℕ) → done ≡ t ++ (48 ∷ []) → Sized (inputLimit + 1) (length t) (h .start) → Waits done t → Reading done h
   inside : h .phase ≡ 2 → Goes done false → Reading done h
 
 -- ---- the text and the lines after it
@@ -230,17 +213,17 @@ module _ (done t : List ℕ) (ls : List Line) (bytes : List ℕ) (w : Cut done t
 -- ---- where the parser stands
 
 pub data Stands (done : List ℕ) (m : Memory) : Type 0 where
-  in-text : Reading done (m .parser .head) → Sized 16385 (length done) (m .parser .head .size) → Stored 16384 (m .text) done → m .parser .line ≡ openLine
-      → m .parser .places ≡ replicate 4 255
+  in-text : Reading done (m .parser .head) → Sized (inputLimit + 1) (length done) (m .parser .head .size) → Stored 0 inputLimit (m .text) done → m .parser .line ≡ openLine
+      → m .parser .places ≡ replicate mostVariables unusedPlace
       → Gathered [] m
       → Stands done m
-  in-opening : (t bytes : List ℕ) → m .parser .head .phase ≡ 3 → Cut done t [] bytes → Sized 16385 (length t) (m .parser .head .size) → Stored 16384 (m .text) t
+  in-opening : (t bytes : List ℕ) → m .parser .head .phase ≡ 3 → Cut done t [] bytes → Sized (inputLimit + 1) (length t) (m .parser .head .size) → Stored 0 inputLimit (m .text) t
       → Buffered (m .parser .line) bytes
-      → m .parser .places ≡ replicate 4 255
+      → m .parser .places ≡ replicate mostVariables unusedPlace
       → Gathered [] m
       → Stands done m
-  in-lines : (t bytes : List ℕ) (first : Line) (ls : List Line) → m .parser .head .phase ≡ 4 → Cut done t (first ∷ ls) bytes → Sized 16385 (length t) (m .parser .head .size)
-      → Stored 16384 (m .text) t
+  in-lines : (t bytes : List ℕ) (first : Line) (ls : List Line) → m .parser .head .phase ≡ 4 → Cut done t (first ∷ ls) bytes → Sized (inputLimit + 1) (length t) (m .parser .head .size)
+      → Stored 0 inputLimit (m .text) t
       → Buffered (m .parser .line) bytes
       → m .parser .places ≡ placesIn (first ∷ ls)
       → Gathered ls m
@@ -248,35 +231,32 @@ pub data Stands (done : List ℕ) (m : Memory) : Type 0 where
 
 -- ---- at the start
 
-pub stands-start : (text firsts seconds thirds : List ℕ) → 16384 ≤ length text → 278528 ≤ length firsts → 278528 ≤ length seconds → 278528 ≤ length thirds
-    → Stands [] (memory fresh text firsts seconds thirds)
-unfolding fresh wordsIn conclusionsIn
-stands-start text firsts seconds thirds t x y z =
-    in-text (at-start refl refl (λ rest. refl)) (record { few = omega arith; exact = λ h. refl; full = λ h. absurd (omega arith) }) (none 16384 text t) refl refl
+pub stands-start : (text : List ℕ) (steps : List (List ℕ)) → inputLimit ≤ length text → mostSteps ≤ length steps → Stands [] (memory fresh text steps)
+unfolding fresh stepsIn conclusionsIn
+stands-start text steps t s =
+    in-text (at-start refl refl (λ rest. refl)) (record { few = omega arith; exact = λ h. refl; full = λ h. absurd (omega arith) })
+    (record { room = t; at = λ j i k. absurd (omega arith) })
+    refl
+    refl
     (record {
       counted = record { few = omega arith; exact = λ h. refl; full = λ h. absurd (omega arith) };
-      firsts = none 278528 firsts x;
-      seconds = none 278528 seconds y;
-      thirds = none 278528 thirds z;
+      stored = record { room = s; at = λ j i k. absurd (omega arith) };
       notes = notes-none;
     })
-  where
-    none : (most : ℕ) (space : List ℕ) → most ≤ length space → Stored most space []
-    none most space h = record { room = h; at = λ j i k. absurd (omega arith) }
 
 -- ---- one byte more
 
 module _ (b : ℕ) (m : Memory) where
   taken-text : m .parser .head .phase < 3
-      → taken b m ≡ memory (withHead (m .parser) b) (set (m .text) (m .parser .head .size) b) (m .firsts) (m .seconds) (m .thirds)
+      → taken b m ≡ memory (withHead (m .parser) b) (set (m .text) (m .parser .head .size) b) (m .steps)
   unfolding taken
   taken-text h = rw (lt-ltb (m .parser .head .phase) 3 h)
 
-  taken-byte : 3 ≤ m .parser .head .phase → (b ≡ 10 → ⊥) → taken b m ≡ memory (withByte (m .parser) b) (m .text) (m .firsts) (m .seconds) (m .thirds)
+  taken-byte : 3 ≤ m .parser .head .phase → (b ≡ 10 → ⊥) → taken b m ≡ memory (withByte (m .parser) b) (m .text) (m .steps)
   unfolding taken
   taken-byte h e = rw (le-ltb (m .parser .head .phase) 3 h, ne-eqb b 10 e)
 
-  taken-places : m .parser .head .phase ≡ 3 → b ≡ 10 → taken b m ≡ memory (withPlaces (m .parser)) (m .text) (m .firsts) (m .seconds) (m .thirds)
+  taken-places : m .parser .head .phase ≡ 3 → b ≡ 10 → taken b m ≡ memory (withPlaces (m .parser)) (m .text) (m .steps)
   unfolding taken
   taken-places h e = rw (le-ltb (m .parser .head .phase) 3 (omega arith), eq-eqb b 10 e, eq-eqb (m .parser .head .phase) 3 h)
 
@@ -286,15 +266,15 @@ module _ (b : ℕ) (m : Memory) where
 
 -- the head by the next phase
 module _ (h : Head) (b : ℕ) where
-  head-zero : phaseAfter (h .phase) b ≡ 0 → headAfter h b ≡ record { phase = 0; size = grown (h .size) 16385; start = grown (h .size) 16385 }
+  head-zero : phaseAfter (h .phase) b ≡ 0 → headAfter h b ≡ record { phase = 0; size = grown (h .size) (inputLimit + 1); start = grown (h .size) (inputLimit + 1) }
   unfolding headAfter endAfter startAfter
   head-zero e = rw e
 
-  head-one : phaseAfter (h .phase) b ≡ 1 → headAfter h b ≡ record { phase = 1; size = grown (h .size) 16385; start = h .start }
+  head-one : phaseAfter (h .phase) b ≡ 1 → headAfter h b ≡ record { phase = 1; size = grown (h .size) (inputLimit + 1); start = h .start }
   unfolding headAfter endAfter startAfter
   head-one e = rw e
 
-  head-two : phaseAfter (h .phase) b ≡ 2 → headAfter h b ≡ record { phase = 2; size = grown (h .size) 16385; start = h .start }
+  head-two : phaseAfter (h .phase) b ≡ 2 → headAfter h b ≡ record { phase = 2; size = grown (h .size) (inputLimit + 1); start = h .start }
   unfolding headAfter endAfter startAfter
   head-two e = rw e
 
@@ -304,26 +284,26 @@ module _ (h : Head) (b : ℕ) where
 
 module _ (done : List ℕ) (b : ℕ) (m : Memory) where
   abbrev later : Memory
-  later = memory (withHead (m .parser) b) (set (m .text) (m .parser .head .size) b) (m .firsts) (m .seconds) (m .thirds)
+  later = memory (withHead (m .parser) b) (set (m .text) (m .parser .head .size) b) (m .steps)
 
-  module _ (low : m .parser .head .phase < 3) (sized : Sized 16385 (length done) (m .parser .head .size)) (stored : Stored 16384 (m .text) done)
-      (opened : m .parser .line ≡ openLine) (unplaced : m .parser .places ≡ replicate 4 255) (gathered : Gathered [] m) where
+  module _ (low : m .parser .head .phase < 3) (sized : Sized (inputLimit + 1) (length done) (m .parser .head .size)) (stored : Stored 0 inputLimit (m .text) done)
+      (opened : m .parser .line ≡ openLine) (unplaced : m .parser .places ≡ replicate mostVariables unusedPlace) (gathered : Gathered [] m) where
     gathered-on : Gathered [] later
     unfolding withHead
-    gathered-on = record { counted = gathered .counted; firsts = gathered .firsts; seconds = gathered .seconds; thirds = gathered .thirds; notes = gathered .notes }
+    gathered-on = record { counted = gathered .counted; stored = gathered .stored; notes = gathered .notes }
 
-    more-sized : Sized 16385 (length (done ++ (b ∷ []))) (grown (m .parser .head .size) 16385)
-    more-sized = rw (length-append done (b ∷ [])) (sized-more 16385 (length done) (m .parser .head .size) sized)
+    more-sized : Sized (inputLimit + 1) (length (done ++ (b ∷ []))) (grown (m .parser .head .size) (inputLimit + 1))
+    more-sized = rw (length-append done (b ∷ [])) (sized-more (inputLimit + 1) (length done) (m .parser .head .size) sized)
 
-    more-stored : Stored 16384 (set (m .text) (m .parser .head .size) b) (done ++ (b ∷ []))
-    more-stored = stored-more 16384 (m .text) done (m .parser .head .size) b sized stored
+    more-stored : Stored 0 inputLimit (set (m .text) (m .parser .head .size) b) (done ++ (b ∷ []))
+    more-stored = stored-more 0 inputLimit (m .text) done (m .parser .head .size) b sized stored
 
-    text-on : (h : Head) → headAfter (m .parser .head) b ≡ h → h .size ≡ grown (m .parser .head .size) 16385 → Reading (done ++ (b ∷ [])) h → Stands (done ++ (b ∷ [])) (taken b m)
+    text-on : (h : Head) → headAfter (m .parser .head) b ≡ h → h .size ≡ grown (m .parser .head .size) (inputLimit + 1) → Reading (done ++ (b ∷ [])) h → Stands (done ++ (b ∷ [])) (taken b m)
     unfolding withHead
     text-on h e s r =
         subst (Stands (done ++ (b ∷ []))) (sym (taken-text b m low))
         (in-text (subst (Reading (done ++ (b ∷ []))) (sym e) r)
-        (subst (λ (x : Head). Sized 16385 (length (done ++ (b ∷ []))) (x .size)) (sym e) (rw s more-sized))
+        (subst (λ (x : Head). Sized (inputLimit + 1) (length (done ++ (b ∷ []))) (x .size)) (sym e) (rw s more-sized))
         more-stored
         opened
         unplaced
@@ -331,16 +311,16 @@ module _ (done : List ℕ) (b : ℕ) (m : Memory) where
 
     text-opens : (t : List ℕ) → headAfter (m .parser .head) b ≡ record { phase = 3; size = m .parser .head .start; start = m .parser .head .start } → b ≡ 56
         → done ≡ t ++ (48 ∷ [])
-        → Sized 16385 (length t) (m .parser .head .start)
+        → Sized (inputLimit + 1) (length t) (m .parser .head .start)
         → Waits done t
         → Stands (done ++ (b ∷ [])) (taken b m)
     unfolding withHead
     text-opens t e f g s w =
         subst (Stands (done ++ (b ∷ []))) (sym (taken-text b m low))
         (in-opening t (48 ∷ 56 ∷ []) (ap (λ (x : Head). x .phase) e) (subst (λ (x : ℕ). Cut (done ++ (x ∷ [])) t [] (48 ∷ 56 ∷ [])) (sym f) (cut-open done t g w))
-        (subst (λ (x : Head). Sized 16385 (length t) (x .size)) (sym e) s)
-        (stored-front 16384 (set (m .text) (m .parser .head .size) b) t ((48 ∷ []) ++ (b ∷ []))
-        (subst (Stored 16384 (set (m .text) (m .parser .head .size) b)) (ap (λ (x : List ℕ). x ++ (b ∷ [])) g ∙ append-assoc t (48 ∷ []) (b ∷ [])) more-stored))
+        (subst (λ (x : Head). Sized (inputLimit + 1) (length t) (x .size)) (sym e) s)
+        (stored-front 0 inputLimit (set (m .text) (m .parser .head .size) b) t ((48 ∷ []) ++ (b ∷ []))
+        (subst (Stored 0 inputLimit (set (m .text) (m .parser .head .size) b)) (ap (λ (x : List ℕ). x ++ (b ∷ [])) g ∙ append-assoc t (48 ∷ []) (b ∷ [])) more-stored))
         (subst (λ (x : Buffer). Buffered x (48 ∷ 56 ∷ [])) (sym opened) buffered-open)
         unplaced
         gathered-on)
@@ -404,7 +384,7 @@ whole bytes = record { bytes = bytes; ended = true }
 abbrev broken : List ℕ → Line
 broken bytes = record { bytes = bytes; ended = false }
 
-module _ (done : List ℕ) (b : ℕ) (m : Memory) (t bytes : List ℕ) (sized : Sized 16385 (length t) (m .parser .head .size)) (stored : Stored 16384 (m .text) t)
+module _ (done : List ℕ) (b : ℕ) (m : Memory) (t bytes : List ℕ) (sized : Sized (inputLimit + 1) (length t) (m .parser .head .size)) (stored : Stored 0 inputLimit (m .text) t)
     (buffered : Buffered (m .parser .line) bytes) where
   concludes-same : formed 177 26 (m .parser .line .good) (m .parser .line .size) (m .parser .line .values) ≡ concludes (whole bytes)
   unfolding goodLine digitsOf
@@ -414,18 +394,21 @@ module _ (done : List ℕ) (b : ℕ) (m : Memory) (t bytes : List ℕ) (sized : 
   unfolding goodLine digitsOf
   word-here i h = word-same (m .parser .line) bytes buffered i h
 
+  words-here : stepWords (m .parser .line .good) (m .parser .line .size) (m .parser .line .values) ≡ lineWords (whole bytes)
+  words-here = rw (word-here 0 (omega arith), word-here 1 (omega arith), word-here 2 (omega arith))
+
   noted-here : noted (m .parser .noted) (m .parser .line .values) ≡ noted (m .parser .noted) (digitsOf (whole bytes))
   unfolding digitsOf
   noted-here = noted-same (m .parser .line) bytes buffered (m .parser .noted)
 
   -- in the 08 line
-  module _ (phase : m .parser .head .phase ≡ 3) (cut : Cut done t [] bytes) (unplaced : m .parser .places ≡ replicate 4 255) (gathered : Gathered [] m) where
+  module _ (phase : m .parser .head .phase ≡ 3) (cut : Cut done t [] bytes) (unplaced : m .parser .places ≡ replicate mostVariables unusedPlace) (gathered : Gathered [] m) where
     opening-on : (b ≡ 10 → ⊥) → Stands (done ++ (b ∷ [])) (taken b m)
     unfolding withByte
     opening-on e =
         subst (Stands (done ++ (b ∷ []))) (sym (taken-byte b m (omega arith) e))
         (in-opening t (bytes ++ (b ∷ [])) phase (cut-on done t [] bytes cut b e) sized stored (buffered-push (m .parser .line) bytes b buffered) unplaced
-        (record { counted = gathered .counted; firsts = gathered .firsts; seconds = gathered .seconds; thirds = gathered .thirds; notes = gathered .notes }))
+        (record { counted = gathered .counted; stored = gathered .stored; notes = gathered .notes }))
 
     places-here : withPlaces (m .parser) .places ≡ placesIn (whole bytes ∷ [])
     unfolding withPlaces placesIn goodLine digitsOf
@@ -436,7 +419,7 @@ module _ (done : List ℕ) (b : ℕ) (m : Memory) (t bytes : List ℕ) (sized : 
     opening-ends e =
         subst (Stands (done ++ (b ∷ []))) (sym (taken-places b m phase e))
         (in-lines t [] (whole bytes) [] refl (subst (λ (x : ℕ). Cut (done ++ (x ∷ [])) t (whole bytes ∷ []) []) (sym e) (cut-feed done t [] bytes cut)) sized stored buffered-empty places-here
-        (record { counted = gathered .counted; firsts = gathered .firsts; seconds = gathered .seconds; thirds = gathered .thirds; notes = gathered .notes }))
+        (record { counted = gathered .counted; stored = gathered .stored; notes = gathered .notes }))
 
   -- in a later line
   module _ (first : Line) (ls : List Line) (phase : m .parser .head .phase ≡ 4) (cut : Cut done t (first ∷ ls) bytes) (placed : m .parser .places ≡ placesIn (first ∷ ls))
@@ -446,7 +429,7 @@ module _ (done : List ℕ) (b : ℕ) (m : Memory) (t bytes : List ℕ) (sized : 
     line-on e =
         subst (Stands (done ++ (b ∷ []))) (sym (taken-byte b m (omega arith) e))
         (in-lines t (bytes ++ (b ∷ [])) first ls phase (cut-on done t (first ∷ ls) bytes cut b e) sized stored (buffered-push (m .parser .line) bytes b buffered) placed
-        (record { counted = gathered .counted; firsts = gathered .firsts; seconds = gathered .seconds; thirds = gathered .thirds; notes = gathered .notes }))
+        (record { counted = gathered .counted; stored = gathered .stored; notes = gathered .notes }))
 
     placed-more : m .parser .places ≡ placesIn (first ∷ (ls ++ (whole bytes ∷ [])))
     unfolding placesIn
@@ -455,7 +438,7 @@ module _ (done : List ℕ) (b : ℕ) (m : Memory) (t bytes : List ℕ) (sized : 
     cut-here : b ≡ 10 → Cut (done ++ (b ∷ [])) t (first ∷ (ls ++ (whole bytes ∷ []))) []
     cut-here e = subst (λ (x : ℕ). Cut (done ++ (x ∷ [])) t (first ∷ (ls ++ (whole bytes ∷ []))) []) (sym e) (cut-feed done t (first ∷ ls) bytes cut)
 
-    concluded : concludes (whole bytes) ≡ true → afterLine m ≡ memory (withConclusion (m .parser)) (m .text) (m .firsts) (m .seconds) (m .thirds)
+    concluded : concludes (whole bytes) ≡ true → afterLine m ≡ memory (withConclusion (m .parser)) (m .text) (m .steps)
     unfolding afterLine
     concluded e = rw (concludes-same ∙ e)
 
@@ -472,7 +455,7 @@ module _ (done : List ℕ) (b : ℕ) (m : Memory) (t bytes : List ℕ) (sized : 
     line-ends e false q =
         subst (Stands (done ++ (b ∷ []))) (sym (taken-line b m phase e ∙ stepped q))
         (in-lines t [] first (ls ++ (whole bytes ∷ [])) phase (cut-here e) sized stored buffered-empty placed-more
-        (gathered-step ls (whole bytes) m gathered (withStep (m .parser)) _ _ _ q (word-here 0 (omega arith)) (word-here 1 (omega arith)) (word-here 2 (omega arith)) refl refl))
+        (gathered-step ls (whole bytes) m gathered (withStep (m .parser)) _ q words-here refl refl))
 
 pub stands-taken : (done : List ℕ) (b : ℕ) (m : Memory) → Stands done m → Stands (done ++ (b ∷ [])) (taken b m)
 stands-taken done b m (in-text r s t o u g) = by-phase done b m (reading-low done (m .parser .head) r) s t o u g r
@@ -496,8 +479,8 @@ stands-fed done (b ∷ l) m w =
 -- ---- after the last byte
 
 pub record Parsed (input : List ℕ) (m : Memory) : Type 0 where
-  pub sized : Sized 16385 (length (textOf input)) (m .parser .head .size)
-  pub text : Stored 16384 (m .text) (textOf input)
+  pub sized : Sized (inputLimit + 1) (length (textOf input)) (m .parser .head .size)
+  pub text : Stored 0 inputLimit (m .text) (textOf input)
   pub places : m .parser .places ≡ placesIn (groundLines input)
   pub gathered : Gathered (drop 1 (groundLines input)) m
 
@@ -510,7 +493,7 @@ unfolding finished
 unended-none m e h = rw (eq-eqb (m .parser .head .phase) 4 e, le-ltb 0 (m .parser .line .size) (omega arith))
 
 unended-step : (m : Memory) → m .parser .head .phase ≡ 4 → 0 < m .parser .line .size
-    → finished m ≡ afterStep (memory (unended (m .parser)) (m .text) (m .firsts) (m .seconds) (m .thirds))
+    → finished m ≡ afterStep (memory (unended (m .parser)) (m .text) (m .steps))
 unfolding finished
 unended-step m e h = rw (eq-eqb (m .parser .head .phase) 4 e, lt-ltb 0 (m .parser .line .size) h)
 
@@ -523,19 +506,19 @@ no-lines : (done : List ℕ) → textOf done ≡ done → groundLines done ≡ [
 unfolding linesOf linesFrom
 no-lines done e = ap (λ (x : List ℕ). linesOf (drop (length x) done)) e ∙ ap linesOf (drop-length done)
 
-parsed-of : (input : List ℕ) (m : Memory) (t : List ℕ) (gs : List Line) → textOf input ≡ t → groundLines input ≡ gs → Sized 16385 (length t) (m .parser .head .size)
-    → Stored 16384 (m .text) t
+parsed-of : (input : List ℕ) (m : Memory) (t : List ℕ) (gs : List Line) → textOf input ≡ t → groundLines input ≡ gs → Sized (inputLimit + 1) (length t) (m .parser .head .size)
+    → Stored 0 inputLimit (m .text) t
     → m .parser .places ≡ placesIn gs
     → Gathered (drop 1 gs) m
     → Parsed input m
 parsed-of input m t gs e f s x u g = record { sized = rw e s; text = rw e x; places = rw f u; gathered = rw f g }
 
-no-places : replicate 4 255 ≡ placesIn []
+no-places : replicate mostVariables unusedPlace ≡ placesIn []
 unfolding placesIn
 no-places = refl
 
 -- a line without its feed gives no rows, and is a step of zeros
-broken-places : (bytes : List ℕ) → placesIn (broken bytes ∷ []) ≡ replicate 4 255
+broken-places : (bytes : List ℕ) → placesIn (broken bytes ∷ []) ≡ replicate mostVariables unusedPlace
 unfolding placesIn placesOf placeOf assigns goodLine
 broken-places bytes = refl
 
@@ -543,12 +526,12 @@ broken-step : (bytes : List ℕ) → concludes (broken bytes) ≡ false
 unfolding goodLine formed
 broken-step bytes = refl
 
-broken-word : (bytes : List ℕ) (i : ℕ) → 0 ≡ wordOf (goodLine (broken bytes)) (length bytes) (digitsOf (broken bytes)) i
+broken-words : (bytes : List ℕ) → wordsOf 0 0 0 ≡ lineWords (broken bytes)
 unfolding goodLine formed wordOf
-broken-word bytes i = refl
+broken-words bytes = refl
 
-module _ (input : List ℕ) (m : Memory) (t : List ℕ) (sized : Sized 16385 (length t) (m .parser .head .size)) (stored : Stored 16384 (m .text) t) where
-  end-opening : (bytes : List ℕ) → Cut input t [] bytes → m .parser .places ≡ replicate 4 255 → Gathered [] m → Parsed input m
+module _ (input : List ℕ) (m : Memory) (t : List ℕ) (sized : Sized (inputLimit + 1) (length t) (m .parser .head .size)) (stored : Stored 0 inputLimit (m .text) t) where
+  end-opening : (bytes : List ℕ) → Cut input t [] bytes → m .parser .places ≡ replicate mostVariables unusedPlace → Gathered [] m → Parsed input m
   unfolding linesFrom placesIn
   end-opening [] c u g = parsed-of input m t [] (cut-textOf input t [] [] c) (cut-ground input t [] [] c) sized stored u g
   end-opening (a ∷ l) c u g =
@@ -560,11 +543,11 @@ module _ (input : List ℕ) (m : Memory) (t : List ℕ) (sized : Sized 16385 (le
       parsed-of input m t (first ∷ ls) (cut-textOf input t (first ∷ ls) [] c) (cut-ground input t (first ∷ ls) [] c ∙ append-nil (first ∷ ls)) sized stored u g
 
   end-step : (a : ℕ) (l : List ℕ) (first : Line) (ls : List Line) → Cut input t (first ∷ ls) (a ∷ l) → m .parser .places ≡ placesIn (first ∷ ls) → Gathered ls m
-      → Parsed input (afterStep (memory (unended (m .parser)) (m .text) (m .firsts) (m .seconds) (m .thirds)))
+      → Parsed input (afterStep (memory (unended (m .parser)) (m .text) (m .steps)))
   unfolding linesFrom afterStep withStep unended wordOf formed placesIn
   end-step a l first ls c u g =
       parsed-of input _ t (first ∷ (ls ++ (broken (a ∷ l) ∷ []))) (cut-textOf input t (first ∷ ls) (a ∷ l) c) (cut-ground input t (first ∷ ls) (a ∷ l) c) sized stored u
-      (gathered-step ls (broken (a ∷ l)) m g (withStep (unended (m .parser))) 0 0 0 (broken-step (a ∷ l)) (broken-word (a ∷ l) 0) (broken-word (a ∷ l) 1) (broken-word (a ∷ l) 2) refl refl)
+      (gathered-step ls (broken (a ∷ l)) m g (withStep (unended (m .parser))) (wordsOf 0 0 0) (broken-step (a ∷ l)) (broken-words (a ∷ l)) refl refl)
 
   end-lines : (bytes : List ℕ) (first : Line) (ls : List Line) → m .parser .head .phase ≡ 4 → Cut input t (first ∷ ls) bytes → Buffered (m .parser .line) bytes
       → m .parser .places ≡ placesIn (first ∷ ls)

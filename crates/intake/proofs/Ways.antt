@@ -15,9 +15,10 @@ use borrow.Author.Tests.{eq-eqb, ne-eqb, lt-ltb, le-ltb, le-leb, lt-leb, not-tru
 use lib.ListN.{length, getD, take, set, replicate, length-set}
 use lib.Seq.{set-out, take-suc, take-all}
 use Rattle.meaning.specs.Text.{digit}
+use Rattle.grounds_steps.specs.Steps.{wordsOf, mostSteps}
 use Rattle.frames.specs.Choice.{choose}
 use Rattle.intake.specs.Parsing.{byteOf, twoOf, fourOf, eightOf, assigns, placeOf, placesOf, formed, wordOf}
-use Rattle.intake.specs.Machine.{grown, phaseAfter, endAfter, startAfter, headAfter, emptyLine, openLine, pushed, putConclusion, wanted, noted, withHead, withByte, withPlaces, withConclusion, withStep, unended, noConclusions, fresh, Memory, memory, afterStep, afterLine, taken, fed, finished, Becomes, EndsBy, Stores}
+use Rattle.intake.specs.Machine.{grown, phaseAfter, endAfter, startAfter, headAfter, emptyLine, openLine, pushed, putConclusion, wanted, noted, withHead, withByte, withPlaces, withConclusion, withStep, unended, noConclusions, fresh, Memory, memory, afterStep, afterLine, taken, fed, finished, Becomes, EndsBy}
 use Rattle.intake.specs.declared.Head.{Head}
 use Rattle.intake.specs.declared.Buffer.{Buffer}
 use Rattle.intake.specs.declared.Noted.{Noted}
@@ -229,61 +230,61 @@ pub with-conclusion : (p : Parser) (l : Buffer) (n : Noted) → l ≡ emptyLine 
 unfolding withConclusion
 with-conclusion p l n e f = rw (e, f)
 
-pub with-step : (p : Parser) (l : Buffer) (n : ℕ) → l ≡ emptyLine → n ≡ grown (p .steps) 278529
+pub with-step : (p : Parser) (l : Buffer) (n : ℕ) → l ≡ emptyLine → n ≡ grown (p .steps) (mostSteps + 1)
     → record { head = p .head; line = l; places = p .places; steps = n; noted = p .noted } ≡ withStep p
 unfolding withStep
 with-step p l n e f = rw (e, f)
 
-module _ (p : Parser) (fs ss ts : List ℕ) (r : Parser) (fs′ ss′ ts′ : List ℕ) where
+module _ (p : Parser) (ss : List (List ℕ)) (r : Parser) (ss′ : List (List ℕ)) where
   pub add-step : (x y z at : ℕ) → x ≡ wordOf (p .line .good) (p .line .size) (p .line .values) 0 → y ≡ wordOf (p .line .good) (p .line .size) (p .line .values) 1
       → z ≡ wordOf (p .line .good) (p .line .size) (p .line .values) 2
       → at ≡ p .steps
-      → Stores at x y z fs ss ts fs′ ss′ ts′
+      → ss′ ≡ set ss at (wordsOf x y z)
       → r ≡ withStep p
-      → EndsBy afterStep p fs ss ts r fs′ ss′ ts′
+      → EndsBy afterStep p ss r ss′
   unfolding afterStep
-  add-step x y z at e f g a s h = record { same = λ text. rw (h, s .first, s .second, s .third, a, e, f, g) }
+  add-step x y z at e f g a s h = record { same = λ text. rw (h, s, a, e, f, g) }
 
-  pub end-step : (b : Bool) → b ≡ formed 177 26 (p .line .good) (p .line .size) (p .line .values) → b ≡ false → EndsBy afterStep p fs ss ts r fs′ ss′ ts′
-      → EndsBy afterLine p fs ss ts r fs′ ss′ ts′
+  pub end-step : (b : Bool) → b ≡ formed 177 26 (p .line .good) (p .line .size) (p .line .values) → b ≡ false → EndsBy afterStep p ss r ss′
+      → EndsBy afterLine p ss r ss′
   unfolding afterLine
   end-step b e h w = record { same = λ text. rw (← e, h) (w .same text) }
 
-  pub take-line : (text : List ℕ) (b : ℕ) → 3 ≤ p .head .phase → b ≡ 10 → (p .head .phase ≡ 3 → ⊥) → EndsBy afterLine p fs ss ts r fs′ ss′ ts′
-      → Becomes (taken b (memory p text fs ss ts)) r text fs′ ss′ ts′
+  pub take-line : (text : List ℕ) (b : ℕ) → 3 ≤ p .head .phase → b ≡ 10 → (p .head .phase ≡ 3 → ⊥) → EndsBy afterLine p ss r ss′
+      → Becomes (taken b (memory p text ss)) r text ss′
   unfolding taken
   take-line text b h e f w = record { same = rw (le-ltb (p .head .phase) 3 h, eq-eqb b 10 e, ne-eqb (p .head .phase) 3 f) (w .same text) }
 
-  pub finish-step : (q : Parser) → p .head .phase ≡ 4 → (p .line .size ≡ 0 → ⊥) → q ≡ unended p → EndsBy afterStep q fs ss ts r fs′ ss′ ts′
-      → EndsBy finished p fs ss ts r fs′ ss′ ts′
+  pub finish-step : (q : Parser) → p .head .phase ≡ 4 → (p .line .size ≡ 0 → ⊥) → q ≡ unended p → EndsBy afterStep q ss r ss′
+      → EndsBy finished p ss r ss′
   unfolding finished
   finish-step q e h f w = record { same = λ text. rw (eq-eqb (p .head .phase) 4 e, lt-ltb 0 (p .line .size) (omega arith), ← f) (w .same text) }
 
-module _ (p : Parser) (fs ss ts : List ℕ) where
+module _ (p : Parser) (ss : List (List ℕ)) where
   pub end-conclusion : (r : Parser) (b : Bool) → b ≡ formed 177 26 (p .line .good) (p .line .size) (p .line .values) → b ≡ true → r ≡ withConclusion p
-      → EndsBy afterLine p fs ss ts r fs ss ts
+      → EndsBy afterLine p ss r ss
   unfolding afterLine
   end-conclusion r b e h f = record { same = λ text. rw (← e, h, f) }
 
-  pub finish-not : (p .head .phase ≡ 4 → ⊥) → EndsBy finished p fs ss ts p fs ss ts
+  pub finish-not : (p .head .phase ≡ 4 → ⊥) → EndsBy finished p ss p ss
   unfolding finished
   finish-not h = record { same = λ text. rw (ne-eqb (p .head .phase) 4 h) }
 
-  pub finish-empty : p .head .phase ≡ 4 → p .line .size ≡ 0 → EndsBy finished p fs ss ts p fs ss ts
+  pub finish-empty : p .head .phase ≡ 4 → p .line .size ≡ 0 → EndsBy finished p ss p ss
   unfolding finished
   finish-empty e h = record { same = λ text. rw (eq-eqb (p .head .phase) 4 e, le-ltb 0 (p .line .size) (omega arith)) }
 
   module _ (text : List ℕ) (b : ℕ) (r : Parser) where
     pub take-text : (text′ : List ℕ) (at : ℕ) → p .head .phase < 3 → at ≡ p .head .size → text′ ≡ set text at b → r ≡ withHead p b
-        → Becomes (taken b (memory p text fs ss ts)) r text′ fs ss ts
+        → Becomes (taken b (memory p text ss)) r text′ ss
     unfolding taken
     take-text text′ at h a e f = record { same = rw (lt-ltb (p .head .phase) 3 h, e, a, f) }
 
-    pub take-byte : 3 ≤ p .head .phase → (b ≡ 10 → ⊥) → r ≡ withByte p b → Becomes (taken b (memory p text fs ss ts)) r text fs ss ts
+    pub take-byte : 3 ≤ p .head .phase → (b ≡ 10 → ⊥) → r ≡ withByte p b → Becomes (taken b (memory p text ss)) r text ss
     unfolding taken
     take-byte h e f = record { same = rw (le-ltb (p .head .phase) 3 h, ne-eqb b 10 e, f) }
 
-    pub take-places : 3 ≤ p .head .phase → b ≡ 10 → p .head .phase ≡ 3 → r ≡ withPlaces p → Becomes (taken b (memory p text fs ss ts)) r text fs ss ts
+    pub take-places : 3 ≤ p .head .phase → b ≡ 10 → p .head .phase ≡ 3 → r ≡ withPlaces p → Becomes (taken b (memory p text ss)) r text ss
     unfolding taken
     take-places h e g f = record { same = rw (le-ltb (p .head .phase) 3 h, eq-eqb b 10 e, eq-eqb (p .head .phase) 3 g, f) }
 
@@ -291,9 +292,7 @@ module _ (p : Parser) (fs ss ts : List ℕ) where
 
 pub record Alike (m n : Memory) : Type 0 where
   pub text : length (n .text) ≡ length (m .text)
-  pub firsts : length (n .firsts) ≡ length (m .firsts)
-  pub seconds : length (n .seconds) ≡ length (m .seconds)
-  pub thirds : length (n .thirds) ≡ length (m .thirds)
+  pub steps : length (n .steps) ≡ length (m .steps)
 
 alike-choose : (m x y : Memory) (b : Bool) → Alike m x → Alike m y → Alike m (choose b x y)
 alike-choose m x y true p q = p
@@ -301,29 +300,29 @@ alike-choose m x y false p q = q
 
 step-alike : (m : Memory) → Alike m (afterStep m)
 unfolding afterStep
-step-alike m = record { text = refl; firsts = simp length-set; seconds = simp length-set; thirds = simp length-set }
+step-alike m = record { text = refl; steps = simp length-set }
 
 line-alike : (m : Memory) → Alike m (afterLine m)
 unfolding afterLine
 line-alike m =
-    alike-choose m _ _ (formed 177 26 (m .parser .line .good) (m .parser .line .size) (m .parser .line .values)) (record { text = refl; firsts = refl; seconds = refl; thirds = refl })
+    alike-choose m _ _ (formed 177 26 (m .parser .line .good) (m .parser .line .size) (m .parser .line .values)) (record { text = refl; steps = refl })
     (step-alike m)
 
 taken-alike : (b : ℕ) (m : Memory) → Alike m (taken b m)
 unfolding taken
 taken-alike b m =
-    alike-choose m _ _ (ltb (m .parser .head .phase) 3) (record { text = simp length-set; firsts = refl; seconds = refl; thirds = refl })
+    alike-choose m _ _ (ltb (m .parser .head .phase) 3) (record { text = simp length-set; steps = refl })
     (alike-choose m _ _ (eqb b 10)
-    (alike-choose m _ _ (eqb (m .parser .head .phase) 3) (record { text = refl; firsts = refl; seconds = refl; thirds = refl }) (line-alike m))
-    (record { text = refl; firsts = refl; seconds = refl; thirds = refl }))
+    (alike-choose m _ _ (eqb (m .parser .head .phase) 3) (record { text = refl; steps = refl }) (line-alike m))
+    (record { text = refl; steps = refl }))
 
 pub fed-alike : (l : List ℕ) (m : Memory) → Alike m (fed l m)
 unfolding fed
-fed-alike [] m = record { text = refl; firsts = refl; seconds = refl; thirds = refl }
+fed-alike [] m = record { text = refl; steps = refl }
 fed-alike (b ∷ l) m =
     let p : Alike m (taken b m) = taken-alike b m in
     let q : Alike (taken b m) (fed l (taken b m)) = fed-alike l (taken b m) in
-    record { text = q .text ∙ p .text; firsts = q .firsts ∙ p .firsts; seconds = q .seconds ∙ p .seconds; thirds = q .thirds ∙ p .thirds }
+    record { text = q .text ∙ p .text; steps = q .steps ∙ p .steps }
 
 -- ---- the pieces
 
@@ -333,16 +332,16 @@ fed-snoc [] b m = refl
 fed-snoc (a ∷ l) b m = fed-snoc l b (taken a m)
 
 -- the first k bytes of a piece are taken
-pub record Feeding (m : Memory) (piece : List ℕ) (k : ℕ) (q : Parser) (text fs ss ts : List ℕ) : Type 0 where
+pub record Feeding (m : Memory) (piece : List ℕ) (k : ℕ) (q : Parser) (text : List ℕ) (ss : List (List ℕ)) : Type 0 where
   pub within : k ≤ length piece
   pub short : length piece < 18446744073709551615
-  pub same : memory q text fs ss ts ≡ fed (take k piece) m
+  pub same : memory q text ss ≡ fed (take k piece) m
 
-pub feeding-step : {m : Memory} {piece : List ℕ} {k : ℕ} {q : Parser} {text fs ss ts : List ℕ} {b : ℕ} {r : Parser} {text′ fs′ ss′ ts′ : List ℕ} → Feeding m piece k q text fs ss ts
+pub feeding-step : {m : Memory} {piece : List ℕ} {k : ℕ} {q : Parser} {text : List ℕ} {ss : List (List ℕ)} {b : ℕ} {r : Parser} {text′ : List ℕ} {ss′ : List (List ℕ)} → Feeding m piece k q text ss
     → k < length piece
     → b ≡ getD piece k 0
-    → Becomes (taken b (memory q text fs ss ts)) r text′ fs′ ss′ ts′
-    → Feeding m piece (k + 1) r text′ fs′ ss′ ts′
+    → Becomes (taken b (memory q text ss)) r text′ ss′
+    → Feeding m piece (k + 1) r text′ ss′
 feeding-step {m} {piece} {k} {b = b} w h e s =
     record {
       within = omega arith;
@@ -354,26 +353,20 @@ feeding-step {m} {piece} {k} {b = b} w h e s =
           ∙ rw (add-one k, take-suc piece k 0 h, e);
     }
 
-pub fits-more : {m : Memory} {piece : List ℕ} {k : ℕ} {q : Parser} {text fs ss ts : List ℕ} → Feeding m piece k q text fs ss ts → k < length piece → Fits w64 (k + 1)
+pub fits-more : {m : Memory} {piece : List ℕ} {k : ℕ} {q : Parser} {text : List ℕ} {ss : List (List ℕ)} → Feeding m piece k q text ss → k < length piece → Fits w64 (k + 1)
 fits-more w h = omega (arith, w .short)
 
-module _ (p : Parser) (piece : List ℕ) (k : ℕ) (q : Parser) (text fs ss ts text′ fs′ ss′ ts′ : List ℕ)
-    (w : Feeding (memory p text fs ss ts) piece k q text′ fs′ ss′ ts′) where
+module _ (p : Parser) (piece : List ℕ) (k : ℕ) (q : Parser) (text : List ℕ) (ss : List (List ℕ)) (text′ : List ℕ) (ss′ : List (List ℕ))
+    (w : Feeding (memory p text ss) piece k q text′ ss′) where
   pub text-long : length text′ ≡ length text
-  text-long = ap (λ (m : Memory). length (m .text)) (w .same) ∙ fed-alike (take k piece) (memory p text fs ss ts) .text
+  text-long = ap (λ (m : Memory). length (m .text)) (w .same) ∙ fed-alike (take k piece) (memory p text ss) .text
 
-  pub firsts-long : length fs′ ≡ length fs
-  firsts-long = ap (λ (m : Memory). length (m .firsts)) (w .same) ∙ fed-alike (take k piece) (memory p text fs ss ts) .firsts
+  pub steps-long : length ss′ ≡ length ss
+  steps-long = ap (λ (m : Memory). length (m .steps)) (w .same) ∙ fed-alike (take k piece) (memory p text ss) .steps
 
-  pub seconds-long : length ss′ ≡ length ss
-  seconds-long = ap (λ (m : Memory). length (m .seconds)) (w .same) ∙ fed-alike (take k piece) (memory p text fs ss ts) .seconds
-
-  pub thirds-long : length ts′ ≡ length ts
-  thirds-long = ap (λ (m : Memory). length (m .thirds)) (w .same) ∙ fed-alike (take k piece) (memory p text fs ss ts) .thirds
-
-pub feeding-done : (m : Memory) (piece : List ℕ) (k : ℕ) (q : Parser) (text fs ss ts : List ℕ) → Feeding m piece k q text fs ss ts → length piece ≤ k
-    → Becomes (fed piece m) q text fs ss ts
-feeding-done m piece k q text fs ss ts w h = record { same = w .same ∙ rw (take-all k piece h) }
+pub feeding-done : (m : Memory) (piece : List ℕ) (k : ℕ) (q : Parser) (text : List ℕ) (ss : List (List ℕ)) → Feeding m piece k q text ss → length piece ≤ k
+    → Becomes (fed piece m) q text ss
+feeding-done m piece k q text ss w h = record { same = w .same ∙ rw (take-all k piece h) }
 
 pub ruleset mine = (
   needs,
@@ -438,7 +431,5 @@ pub ruleset ends = (
   take-places,
   feeding-done,
   text-long,
-  firsts-long,
-  seconds-long,
-  thirds-long,
+  steps-long,
 )

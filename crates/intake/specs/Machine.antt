@@ -1,8 +1,8 @@
 -- What the parser does with each byte.
 --     fresh, withHead .. withStep   the parser at the start, and after a byte of the text, a byte of a line, the feed of a line
---     Memory                        the parser, with the space for the text and the three columns of steps
+--     Memory                        the parser, with the space for the text and the one for the steps, three words a step
 --     taken, fed, finished          the memory after one byte, after some, and after the last
---     Becomes, EndsBy, Stores       what code does to a memory
+--     Becomes, EndsBy               what code does to a memory
 -- Sizes stop growing one above the most that is asked for, and a place past a space is not stored. Assumes nothing.
 use mathlib.Core.Bool.{Bool, true, false, _&&_}
 use mathlib.Core.List.{List, [], _∷_}
@@ -11,8 +11,11 @@ use Prim.Native.Nat.{ℕ, _+_, _-_}
 use lib.Dec.{eqb, ltb, leb}
 use lib.ListN.{getD, set, replicate}
 use Rattle.meaning.specs.Text.{digit}
+use Rattle.meaning.specs.Replies.{inputLimit}
+use Rattle.runs.specs.Limits.{mostLiterals, mostVariables, unusedPlace}
+use Rattle.grounds_steps.specs.Steps.{mostSteps}
 use Rattle.frames.specs.Choice.{choose}
-use Rattle.intake.specs.Parsing.{byteOf, twoOf, fourOf, placesOf, isConclusion, wordOf}
+use Rattle.intake.specs.Parsing.{byteOf, twoOf, fourOf, placesOf, isConclusion, stepWords}
 use Rattle.intake.specs.declared.Head.{Head}
 use Rattle.intake.specs.declared.Buffer.{Buffer}
 use Rattle.intake.specs.declared.Noted.{Noted}
@@ -36,8 +39,8 @@ unfoldable pub headAfter : Head → ℕ → Head
 headAfter h b =
     record {
       phase = phaseAfter (h .phase) b;
-      size = endAfter (phaseAfter (h .phase) b) (h .start) (grown (h .size) 16385);
-      start = startAfter (phaseAfter (h .phase) b) (h .start) (grown (h .size) 16385);
+      size = endAfter (phaseAfter (h .phase) b) (h .start) (grown (h .size) (inputLimit + 1));
+      start = startAfter (phaseAfter (h .phase) b) (h .start) (grown (h .size) (inputLimit + 1));
     }
 
 -- ---- a line of the grounds
@@ -64,7 +67,7 @@ putConclusion n vs i =
     }
 
 unfoldable pub wanted : List ℕ → ℕ → Bool
-wanted given x = ltb 0 x && (leb x 16 && eqb (getD given (x - 1) 0) 0)
+wanted given x = ltb 0 x && (leb x mostLiterals && eqb (getD given (x - 1) 0) 0)
 
 unfoldable pub noted : Noted → List ℕ → Noted
 noted n vs = choose (wanted (n .given) (byteOf vs 1)) (putConclusion n vs (byteOf vs 1 - 1)) n
@@ -93,7 +96,7 @@ unfoldable pub withConclusion : Parser → Parser
 withConclusion p = record { head = p .head; line = emptyLine; places = p .places; steps = p .steps; noted = noted (p .noted) (p .line .values) }
 
 unfoldable pub withStep : Parser → Parser
-withStep p = record { head = p .head; line = emptyLine; places = p .places; steps = grown (p .steps) 278529; noted = p .noted }
+withStep p = record { head = p .head; line = emptyLine; places = p .places; steps = grown (p .steps) (mostSteps + 1); noted = p .noted }
 
 -- a line without its feed
 unfoldable pub unended : Parser → Parser
@@ -102,47 +105,46 @@ unended p = record { head = p .head; line = record { values = p .line .values; s
 unfoldable pub noConclusions : Noted
 noConclusions =
     record {
-      conclusions = record { firsts = replicate 16 0; differences = replicate 16 0 };
-      given = replicate 16 0;
+      conclusions = record { firsts = replicate mostLiterals 0; differences = replicate mostLiterals 0 };
+      given = replicate mostLiterals 0;
     }
 
 unfoldable pub fresh : Parser
-fresh = record { head = record { phase = 0; size = 0; start = 0 }; line = openLine; places = replicate 4 255; steps = 0; noted = noConclusions }
+fresh = record { head = record { phase = 0; size = 0; start = 0 }; line = openLine; places = replicate mostVariables unusedPlace; steps = 0; noted = noConclusions }
 
 -- ---- the parser and the spaces
 
 pub record Memory : Type 0 where
   pub parser : Parser
   pub text : List ℕ
-  pub firsts : List ℕ
-  pub seconds : List ℕ
-  pub thirds : List ℕ
+  pub steps : List (List ℕ)
 
-abbrev pub memory : Parser → List ℕ → List ℕ → List ℕ → List ℕ → Memory
-memory p t x y z = record { parser = p; text = t; firsts = x; seconds = y; thirds = z }
+abbrev pub memory : Parser → List ℕ → List (List ℕ) → Memory
+memory p t s = record { parser = p; text = t; steps = s }
 
-abbrev pub wordIn : Parser → ℕ → ℕ
-wordIn p i = wordOf (p .line .good) (p .line .size) (p .line .values) i
+-- the words of the line that was taken
+abbrev pub wordsAt : Parser → List ℕ
+wordsAt p = stepWords (p .line .good) (p .line .size) (p .line .values)
 
 unfoldable pub afterStep : Memory → Memory
 afterStep m =
     let p : Parser = m .parser in
-    memory (withStep p) (m .text) (set (m .firsts) (p .steps) (wordIn p 0)) (set (m .seconds) (p .steps) (wordIn p 1)) (set (m .thirds) (p .steps) (wordIn p 2))
+    memory (withStep p) (m .text) (set (m .steps) (p .steps) (wordsAt p))
 
 unfoldable pub afterLine : Memory → Memory
 afterLine m =
     choose (isConclusion (m .parser .line .good) (m .parser .line .size) (m .parser .line .values))
-    (memory (withConclusion (m .parser)) (m .text) (m .firsts) (m .seconds) (m .thirds))
+    (memory (withConclusion (m .parser)) (m .text) (m .steps))
     (afterStep m)
 
 unfoldable pub taken : ℕ → Memory → Memory
 taken b m =
     let p : Parser = m .parser in
     choose (ltb (p .head .phase) 3)
-    (memory (withHead p b) (set (m .text) (p .head .size) b) (m .firsts) (m .seconds) (m .thirds))
+    (memory (withHead p b) (set (m .text) (p .head .size) b) (m .steps))
     (choose (eqb b 10)
-    (choose (eqb (p .head .phase) 3) (memory (withPlaces p) (m .text) (m .firsts) (m .seconds) (m .thirds)) (afterLine m))
-    (memory (withByte p b) (m .text) (m .firsts) (m .seconds) (m .thirds)))
+    (choose (eqb (p .head .phase) 3) (memory (withPlaces p) (m .text) (m .steps)) (afterLine m))
+    (memory (withByte p b) (m .text) (m .steps)))
 
 unfoldable pub fed : List ℕ → Memory → Memory
 fed [] m = m
@@ -150,18 +152,13 @@ fed (b ∷ l) m = fed l (taken b m)
 
 unfoldable pub finished : Memory → Memory
 finished m =
-    choose (eqb (m .parser .head .phase) 4 && ltb 0 (m .parser .line .size)) (afterStep (memory (unended (m .parser)) (m .text) (m .firsts) (m .seconds) (m .thirds))) m
+    choose (eqb (m .parser .head .phase) 4 && ltb 0 (m .parser .line .size)) (afterStep (memory (unended (m .parser)) (m .text) (m .steps))) m
 
 -- ---- what code does to them
 
-pub record Becomes (m : Memory) (r : Parser) (text firsts seconds thirds : List ℕ) : Type 0 where
-  pub same : memory r text firsts seconds thirds ≡ m
+pub record Becomes (m : Memory) (r : Parser) (text : List ℕ) (steps : List (List ℕ)) : Type 0 where
+  pub same : memory r text steps ≡ m
 
 -- whatever the text
-pub record EndsBy (f : Memory → Memory) (p : Parser) (firsts seconds thirds : List ℕ) (r : Parser) (firsts′ seconds′ thirds′ : List ℕ) : Type 0 where
-  pub same : (text : List ℕ) → memory r text firsts′ seconds′ thirds′ ≡ f (memory p text firsts seconds thirds)
-
-pub record Stores (at x y z : ℕ) (firsts seconds thirds firsts′ seconds′ thirds′ : List ℕ) : Type 0 where
-  pub first : firsts′ ≡ set firsts at x
-  pub second : seconds′ ≡ set seconds at y
-  pub third : thirds′ ≡ set thirds at z
+pub record EndsBy (f : Memory → Memory) (p : Parser) (steps : List (List ℕ)) (r : Parser) (steps′ : List (List ℕ)) : Type 0 where
+  pub same : (text : List ℕ) → memory r text steps′ ≡ f (memory p text steps)

@@ -2,7 +2,8 @@
 --     textOf, groundLines          the bytes before the first line that begins with the digits 08; the lines from there on
 --     isStep, isConclusion         a well-formed B0 line, 50 digits and a feed; a well-formed B1 line, 26 digits and a feed
 --     placesIn                     the assignment: four rows by the 08 line, 255 where it gives none
---     wordsIn, conclusionsIn       word 0, 1 or 2 of each later line that is no conclusion, 0 where the line is malformed; the conclusions
+--     stepsIn, conclusionsIn       the three words of each later line that is no conclusion, 0 where the line is malformed; the conclusions
+--     wordsIn                      word 0, 1 or 2 of each such line
 -- A line counts by whether it is digits alone with a feed behind them, how long it is, and the values of its digits. Assumes nothing.
 use mathlib.Core.Bool.{Bool, true, false, _&&_}
 use mathlib.Core.List.{List, [], _∷_, map}
@@ -11,6 +12,8 @@ use lib.Dec.{eqb, ltb, leb}
 use lib.ListN.{length, getD, drop}
 use Rattle.meaning.specs.Text.{Line, linefeed, linesOf, digit}
 use Rattle.meaning.specs.Grounds.{Conclusion}
+use Rattle.runs.specs.Limits.{unusedPlace}
+use Rattle.grounds_steps.specs.Steps.{wordsOf}
 use Rattle.frames.specs.Choice.{choose}
 
 -- ---- the text and the lines after it
@@ -62,13 +65,13 @@ unfoldable pub assigns : Bool → ℕ → List ℕ → Bool
 assigns good size vs = good && (leb (byteOf vs 1) 4 && eqb size (byteOf vs 1 * 2 + 4))
 
 unfoldable pub placeOf : Bool → ℕ → List ℕ → ℕ → ℕ
-placeOf good size vs i = choose (assigns good size vs && ltb i (byteOf vs 1)) (byteOf vs (i + 2)) 255
+placeOf good size vs i = choose (assigns good size vs && ltb i (byteOf vs 1)) (byteOf vs (i + 2)) unusedPlace
 
 unfoldable pub placesOf : Bool → ℕ → List ℕ → List ℕ
 placesOf good size vs = placeOf good size vs 0 ∷ placeOf good size vs 1 ∷ placeOf good size vs 2 ∷ placeOf good size vs 3 ∷ []
 
 unfoldable pub placesIn : List Line → List ℕ
-placesIn [] = 255 ∷ 255 ∷ 255 ∷ 255 ∷ []
+placesIn [] = unusedPlace ∷ unusedPlace ∷ unusedPlace ∷ unusedPlace ∷ []
 placesIn (l ∷ ls) = placesOf (goodLine l) (length (l .bytes)) (digitsOf l)
 
 -- ---- the later lines
@@ -92,6 +95,14 @@ conclusionOf vs = record { literal = byteOf vs 1; first = fourOf vs 2; differenc
 
 abbrev pub concludes : Line → Bool
 concludes l = isConclusion (goodLine l) (length (l .bytes)) (digitsOf l)
+
+-- the three words of a step's line
+abbrev pub stepWords : Bool → ℕ → List ℕ → List ℕ
+stepWords good size vs = wordsOf (wordOf good size vs 0) (wordOf good size vs 1) (wordOf good size vs 2)
+
+unfoldable pub stepsIn : List Line → List (List ℕ)
+stepsIn [] = []
+stepsIn (l ∷ ls) = choose (concludes l) (stepsIn ls) (stepWords (goodLine l) (length (l .bytes)) (digitsOf l) ∷ stepsIn ls)
 
 unfoldable pub wordsIn : ℕ → List Line → List ℕ
 wordsIn i [] = []

@@ -5,6 +5,9 @@ mod notes;
 mod opening;
 mod spaces;
 
+use grounds_steps::STEPS;
+use grounds_steps::WORDS;
+use grounds_steps::put_step;
 use lines::empty_line;
 use lines::formed;
 use lines::open_line;
@@ -14,9 +17,11 @@ use lines::word;
 use notes::no_conclusions;
 use notes::note;
 use opening::advance;
+use runs::limits::LITERALS;
+use runs::limits::UNUSED;
+use runs::limits::VARIABLES;
 use spaces::grow;
 use spaces::put;
-use spaces::put_step;
 use verifier::Conclusions;
 ghost use mathlib.Core.Path.{_≡_};
 ghost use Rattle.intake.specs.Machine.{withHead, withByte, withPlaces, withConclusion, withStep, unended, fresh, memory, afterStep, afterLine, taken, fed, finished, Becomes, EndsBy};
@@ -30,7 +35,7 @@ pub struct Head {
 
 // A line: the values of its digits, how many there are, and whether all are digits.
 pub struct Buffer {
-    pub values: [u8; 51],
+    pub values: [u8; LINE],
     pub size: usize,
     pub good: bool,
 }
@@ -38,19 +43,31 @@ pub struct Buffer {
 // The conclusions, and for which literals there was one.
 pub struct Noted {
     pub conclusions: Conclusions,
-    pub given: [u8; 16],
+    pub given: [u8; LITERALS],
 }
 
 pub struct Parser {
     pub head: Head,
     pub line: Buffer,
-    pub places: [u16; 4],
+    pub places: [u16; VARIABLES],
     pub steps: usize,
     pub noted: Noted,
 }
 
+// The first byte of a step's line and of a conclusion's, and how many digits such a line has.
+const STEP: u64 = 176;
+
+const STEP_DIGITS: usize = 50;
+
+const CONCLUSION: u64 = 177;
+
+const CONCLUSION_DIGITS: usize = 26;
+
+// The most digits of a line that are kept: those of a step, and one more.
+const LINE: usize = STEP_DIGITS + 1;
+
 // The most steps that are taken, and one more.
-const PAST_STEPS: usize = 278529;
+const PAST_STEPS: usize = STEPS + 1;
 
 // Nothing is taken yet.
 pub fn start() -> Parser
@@ -66,7 +83,7 @@ pub fn start() -> Parser
     Parser {
         head,
         line,
-        places: [255; 4],
+        places: [UNUSED; VARIABLES],
         steps: 0,
         noted,
     }
@@ -136,37 +153,30 @@ fn without_feed(p: Parser) -> Parser
 }
 
 // A line that is no conclusion is a step.
-fn add_step(p: Parser, firsts: &mut [u64], seconds: &mut [u64], thirds: &mut [u64]) -> Parser
-    ensures { λ r. ⌜ EndsBy afterStep p (now (firsts .entry)) (now (seconds .entry)) (now (thirds .entry)) r (now (firsts .exit)) (now (seconds .exit)) (now (thirds .exit)) ⌝ }
+fn add_step(p: Parser, steps: &mut [[u64; WORDS]]) -> Parser
+    ensures { λ r. ⌜ EndsBy afterStep p (now (steps .entry)) r (now (steps .exit)) ⌝ }
 {
     let line = p.line;
     let x = word(line, 0);
     let y = word(line, 1);
     let z = word(line, 2);
     let at = p.steps;
-    put_step(firsts, seconds, thirds, at, x, y, z);
+    put_step(steps, at, x, y, z);
     with_step(p)
 }
 
-fn end_line(p: Parser, firsts: &mut [u64], seconds: &mut [u64], thirds: &mut [u64]) -> Parser
-    ensures { λ r. ⌜ EndsBy afterLine p (now (firsts .entry)) (now (seconds .entry)) (now (thirds .entry)) r (now (firsts .exit)) (now (seconds .exit)) (now (thirds .exit)) ⌝ }
+fn end_line(p: Parser, steps: &mut [[u64; WORDS]]) -> Parser
+    ensures { λ r. ⌜ EndsBy afterLine p (now (steps .entry)) r (now (steps .exit)) ⌝ }
 {
     let line = p.line;
-    if formed(line, 177, 26) {
+    if formed(line, CONCLUSION, CONCLUSION_DIGITS) {
         return with_conclusion(p);
     }
-    add_step(p, firsts, seconds, thirds)
+    add_step(p, steps)
 }
 
-fn take(
-    p: Parser,
-    b: u8,
-    text: &mut [u8],
-    firsts: &mut [u64],
-    seconds: &mut [u64],
-    thirds: &mut [u64],
-) -> Parser
-    ensures { λ r. ⌜ Becomes (taken b (memory p (now (text .entry)) (now (firsts .entry)) (now (seconds .entry)) (now (thirds .entry)))) r (now (text .exit)) (now (firsts .exit)) (now (seconds .exit)) (now (thirds .exit)) ⌝ }
+fn take(p: Parser, b: u8, text: &mut [u8], steps: &mut [[u64; WORDS]]) -> Parser
+    ensures { λ r. ⌜ Becomes (taken b (memory p (now (text .entry)) (now (steps .entry)))) r (now (text .exit)) (now (steps .exit)) ⌝ }
 {
     let head = p.head;
     let phase = head.phase;
@@ -181,32 +191,25 @@ fn take(
     if phase == 3 {
         return with_places(p);
     }
-    end_line(p, firsts, seconds, thirds)
+    end_line(p, steps)
 }
 
 // Takes one piece more.
-pub fn feed(
-    p: Parser,
-    piece: &[u8],
-    text: &mut [u8],
-    firsts: &mut [u64],
-    seconds: &mut [u64],
-    thirds: &mut [u64],
-) -> Parser
-    ensures feeds { λ r. ⌜ Becomes (fed (now (piece .entry)) (memory p (now (text .entry)) (now (firsts .entry)) (now (seconds .entry)) (now (thirds .entry)))) r (now (text .exit)) (now (firsts .exit)) (now (seconds .exit)) (now (thirds .exit)) ⌝ }
+pub fn feed(p: Parser, piece: &[u8], text: &mut [u8], steps: &mut [[u64; WORDS]]) -> Parser
+    ensures feeds { λ r. ⌜ Becomes (fed (now (piece .entry)) (memory p (now (text .entry)) (now (steps .entry)))) r (now (text .exit)) (now (steps .exit)) ⌝ }
 {
     let mut q = p;
     let mut k: usize = 0;
     while k < piece.len() {
-        q = take(q, piece[k], text, firsts, seconds, thirds);
+        q = take(q, piece[k], text, steps);
         k += 1;
     }
     q
 }
 
 // Nothing follows: a line without its feed is a step.
-pub fn finish(p: Parser, firsts: &mut [u64], seconds: &mut [u64], thirds: &mut [u64]) -> Parser
-    ensures finishes { λ r. ⌜ EndsBy finished p (now (firsts .entry)) (now (seconds .entry)) (now (thirds .entry)) r (now (firsts .exit)) (now (seconds .exit)) (now (thirds .exit)) ⌝ }
+pub fn finish(p: Parser, steps: &mut [[u64; WORDS]]) -> Parser
+    ensures finishes { λ r. ⌜ EndsBy finished p (now (steps .entry)) r (now (steps .exit)) ⌝ }
 {
     let head = p.head;
     let line = p.line;
@@ -217,5 +220,5 @@ pub fn finish(p: Parser, firsts: &mut [u64], seconds: &mut [u64], thirds: &mut [
         return p;
     }
     let q = without_feed(p);
-    add_step(q, firsts, seconds, thirds)
+    add_step(q, steps)
 }

@@ -1,14 +1,20 @@
 // A line of the grounds, byte by byte, and what it says once it ends.
 use crate::Buffer;
+use crate::LINE;
+use crate::STEP;
+use crate::STEP_DIGITS;
 use crate::bytes::byte;
 use crate::bytes::eight;
 use crate::spaces::grow;
 use frames::digits::value;
+use runs::limits::UNUSED;
+use runs::limits::VARIABLES;
 ghost use mathlib.Core.Bool.{_&&_};
 ghost use mathlib.Core.Path.{_≡_};
 ghost use Prim.Native.Nat.{_+_, _≤_, _<_};
 ghost use lib.Dec.{ltb};
 ghost use lib.ListN.{set};
+ghost use Rattle.runs.specs.Limits.{mostVariables};
 ghost use Rattle.intake.specs.Parsing.{byteOf, assigns as assignsBy, placeOf, placesOf, formed as formedBy, wordOf};
 ghost use Rattle.intake.specs.Machine.{emptyLine, openLine, pushed};
 
@@ -16,7 +22,7 @@ pub(crate) fn empty_line() -> Buffer
     ensures { λ r. ⌜ r ≡ emptyLine ⌝ }
 {
     Buffer {
-        values: [0; 51],
+        values: [0; LINE],
         size: 0,
         good: true,
     }
@@ -26,7 +32,7 @@ pub(crate) fn empty_line() -> Buffer
 pub(crate) fn open_line() -> Buffer
     ensures { λ r. ⌜ r ≡ openLine ⌝ }
 {
-    let mut values = [0; 51];
+    let mut values = [0; LINE];
     values[1] = 8;
     Buffer {
         values,
@@ -44,11 +50,11 @@ fn both(a: bool, v: u8) -> bool
     v < 16
 }
 
-fn with_value(values: [u8; 51], at: usize, v: u8) -> [u8; 51]
+fn with_value(values: [u8; LINE], at: usize, v: u8) -> [u8; LINE]
     ensures { λ r. ⌜ r ≡ set values at v ⌝ }
 {
     let mut w = values;
-    if 51 <= at {
+    if LINE <= at {
         return w;
     }
     w[at] = v;
@@ -62,7 +68,7 @@ pub(crate) fn push(l: Buffer, b: u8) -> Buffer
     let at = l.size;
     let held = l.values;
     let values = with_value(held, at, v);
-    let size = grow(at, 51);
+    let size = grow(at, LINE);
     let good = both(l.good, v);
     Buffer { values, size, good }
 }
@@ -85,7 +91,7 @@ pub(crate) fn word(l: Buffer, i: usize) -> u64
     requires { ⌜ i ≤ 2 ⌝ }
     ensures { λ r. ⌜ r ≡ wordOf (l .good) (l .size) (l .values) i ⌝ }
 {
-    if !formed(l, 176, 50) {
+    if !formed(l, STEP, STEP_DIGITS) {
         return 0;
     }
     eight(&l.values, i * 8 + 1)
@@ -99,7 +105,7 @@ fn assigns(l: Buffer) -> bool
         return false;
     }
     let n = count_in(l);
-    if 4 < n {
+    if VARIABLES < n {
         return false;
     }
     l.size == n * 2 + 4
@@ -112,26 +118,26 @@ fn count_in(l: Buffer) -> usize
 }
 
 fn row_in(l: Buffer, i: usize) -> u16
-    requires { ⌜ i < 4 ⌝ }
+    requires { ⌜ i < mostVariables ⌝ }
     ensures { λ r. ⌜ r ≡ byteOf (l .values) (i + 2) ⌝ }
 {
     byte(&l.values, i + 2) as u16
 }
 
 fn place(l: Buffer, i: usize) -> u16
-    requires { ⌜ i < 4 ⌝ }
+    requires { ⌜ i < mostVariables ⌝ }
     ensures { λ r. ⌜ r ≡ placeOf (l .good) (l .size) (l .values) i ⌝ }
 {
     if !assigns(l) {
-        return 255;
+        return UNUSED;
     }
     if count_in(l) <= i {
-        return 255;
+        return UNUSED;
     }
     row_in(l, i)
 }
 
-pub(crate) fn places(l: Buffer) -> [u16; 4]
+pub(crate) fn places(l: Buffer) -> [u16; VARIABLES]
     ensures { λ r. ⌜ r ≡ placesOf (l .good) (l .size) (l .values) ⌝ }
 {
     [place(l, 0), place(l, 1), place(l, 2), place(l, 3)]

@@ -1,12 +1,14 @@
-// The conclusions that were given: of two for one literal the first counts, and one for a literal past 16 is not kept.
+// The conclusions that were given: of two for one literal the first counts, and one for a literal past the most is not kept.
 use crate::Buffer;
 use crate::Noted;
 use crate::bytes::byte;
 use crate::bytes::four;
 use crate::bytes::two;
+use runs::limits::LITERALS;
 use verifier::Conclusions;
 ghost use mathlib.Core.Path.{_≡_};
 ghost use Prim.Native.Nat.{_<_};
+ghost use Rattle.runs.specs.Limits.{mostLiterals};
 ghost use Rattle.intake.specs.Parsing.{byteOf, twoOf, fourOf};
 ghost use Rattle.intake.specs.Machine.{noConclusions, putConclusion, noted as notedBy};
 
@@ -14,12 +16,12 @@ pub(crate) fn no_conclusions() -> Noted
     ensures { λ r. ⌜ r ≡ noConclusions ⌝ }
 {
     let conclusions = Conclusions {
-        firsts: [0; 16],
-        differences: [0; 16],
+        firsts: [0; LITERALS],
+        differences: [0; LITERALS],
     };
     Noted {
         conclusions,
-        given: [0; 16],
+        given: [0; LITERALS],
     }
 }
 
@@ -43,7 +45,7 @@ fn literal_in(l: Buffer) -> usize
 
 // The conclusion for literal i + 1.
 fn put_conclusion(n: Noted, l: Buffer, i: usize) -> Noted
-    requires { ⌜ i < 16 ⌝ }
+    requires { ⌜ i < mostLiterals ⌝ }
     ensures { λ r. ⌜ r ≡ putConclusion n (l .values) i ⌝ }
 {
     let mut c = n.conclusions;
@@ -64,7 +66,7 @@ pub(crate) fn note(n: Noted, l: Buffer) -> Noted
     if x == 0 {
         return n;
     }
-    if 16 < x {
+    if LITERALS < x {
         return n;
     }
     let i = x - 1;

@@ -1,11 +1,12 @@
 // Where the text ends: before the first line that begins with the digits 08.
 use crate::Head;
 use crate::spaces::grow;
+use replies::INPUT_LIMIT;
 ghost use mathlib.Core.Path.{_≡_};
 ghost use Rattle.intake.specs.Machine.{phaseAfter, endAfter, startAfter, headAfter};
 
 // The most bytes that a text may have, and one more.
-const PAST_TEXT: usize = 16385;
+const PAST_TEXT: usize = INPUT_LIMIT + 1;
 
 fn phase_after(phase: u8, b: u8) -> u8
     ensures { λ r. ⌜ r ≡ phaseAfter phase b ⌝ }

@@ -24,7 +24,8 @@ use Rattle.intake.specs.Machine.{Memory, memory, fresh, taken, fed, finished, B
 use Rattle.intake.specs.declared.Parser.{Parser}
 use Rattle.intake.proofs.Ways.{fed-alike}
 use Rattle.intake.proofs.Standing.{Stands, stands-start, stands-fed, Parsed, parsed}
-use Rattle.verifying.specs.Replies.{VerifyPrints}
+use Rattle.meaning.specs.Replies.{inputLimit}
+use Rattle.verifying.specs.Replies.{stepLimit, VerifyPrints}
 use Rattle.verifying.specs.Claims.{PrintsFor}
 use Rattle.reply_lines.specs.Prints.{Prints}
 use Rattle.reply_lines.specs.declared.Line.{Line}
@@ -65,47 +66,47 @@ unfolding fed
 fed-append [] b m = refl
 fed-append (x ∷ a) b m = fed-append a b (taken x m)
 
-takes-none : (p : Parser) (text fs ss ts : List ℕ) → Takes (memory p text fs ss ts) p text fs ss ts
+takes-none : (p : Parser) (text : List ℕ) (ss : List (List ℕ)) → Takes (memory p text ss) p text ss
 unfolding fed
-takes-none p text fs ss ts = record { input = []; same = refl }
+takes-none p text ss = record { input = []; same = refl }
 
-takes-more : {m : Memory} {p q : Parser} {text fs ss ts text′ fs′ ss′ ts′ : List ℕ} → Takes m p text fs ss ts → Takes (memory p text fs ss ts) q text′ fs′ ss′ ts′
-    → Takes m q text′ fs′ ss′ ts′
+takes-more : {m : Memory} {p q : Parser} {text text′ : List ℕ} {ss ss′ : List (List ℕ)} → Takes m p text ss → Takes (memory p text ss) q text′ ss′
+    → Takes m q text′ ss′
 takes-more {m} a b =
     record { input = a .input ++ b .input; same = b .same ∙ ap (fed (b .input)) (a .same) ∙ sym (fed-append (a .input) (b .input) m) }
 
-pub piece-taken : (m : Memory) (piece : List ℕ) (g : Got) (turn : Turn) (p : Parser) (text fs ss ts : List ℕ) → Read g piece → turn ≡ turnOf g
-    → Becomes (fed piece m) p text fs ss ts → TakesPiece m (record { parser = p; turn = turn }) text fs ss ts
-piece-taken m piece g turn p text fs ss ts r t b =
+pub piece-taken : (m : Memory) (piece : List ℕ) (g : Got) (turn : Turn) (p : Parser) (text : List ℕ) (ss : List (List ℕ)) → Read g piece → turn ≡ turnOf g
+    → Becomes (fed piece m) p text ss → TakesPiece m (record { parser = p; turn = turn }) text ss
+piece-taken m piece g turn p text ss r t b =
     record {
       takes = record { input = piece; same = b .same };
       some = λ w. omega (arith, more-full (length piece) (sym (ap turnOf (r .all)) ∙ sym t ∙ w));
     }
 
-pub piece-failed : (p : Parser) (text fs ss ts : List ℕ) → TakesPiece (memory p text fs ss ts) (record { parser = p; turn = Failed }) text fs ss ts
-piece-failed p text fs ss ts =
-    record { takes = takes-none p text fs ss ts; some = λ w. absurd (let y : _≡_ {A = ℕ} 0 1 = cc in omega arith) }
+pub piece-failed : (p : Parser) (text : List ℕ) (ss : List (List ℕ)) → TakesPiece (memory p text ss) (record { parser = p; turn = Failed }) text ss
+piece-failed p text ss =
+    record { takes = takes-none p text ss; some = λ w. absurd (let y : _≡_ {A = ℕ} 0 1 = cc in omega arith) }
 
 -- ---- all pieces
 
-pub record Going (m : Memory) (p : Parser) (text fs ss ts : List ℕ) (turn : Turn) (turns : ℕ) : Type 0 where
-  pub takes : Takes m p text fs ss ts
+pub record Going (m : Memory) (p : Parser) (text : List ℕ) (ss : List (List ℕ)) (turn : Turn) (turns : ℕ) : Type 0 where
+  pub takes : Takes m p text ss
   pub count : 0 < turns → 18446744073709551615 ≤ turns + length (takes .input)
   pub endless : turn ≡ More → 18446744073709551615 ≤ turns + length (takes .input)
 
-pub going-start : (p : Parser) (text fs ss ts : List ℕ) → p ≡ fresh → Going (memory fresh text fs ss ts) p text fs ss ts More 18446744073709551615
-going-start p text fs ss ts e =
+pub going-start : (p : Parser) (text : List ℕ) (ss : List (List ℕ)) → p ≡ fresh → Going (memory fresh text ss) p text ss More 18446744073709551615
+going-start p text ss e =
     record {
-      takes = subst (λ (q : Parser). Takes (memory fresh text fs ss ts) q text fs ss ts) (sym e) (takes-none fresh text fs ss ts);
+      takes = subst (λ (q : Parser). Takes (memory fresh text ss) q text ss) (sym e) (takes-none fresh text ss);
       count = λ h. omega arith;
       endless = λ h. omega arith;
     }
 
-module _ (m : Memory) (p : Parser) (text fs ss ts : List ℕ) (turn : Turn) (turns : ℕ) (g : Going m p text fs ss ts turn turns) where
-  pub going-next : (r : Taken) (text′ fs′ ss′ ts′ : List ℕ) → TakesPiece (memory p text fs ss ts) r text′ fs′ ss′ ts′ → 0 < turns
-      → (n : ℕ) → n ≡ leftBy (r .turn) turns → Going m (r .parser) text′ fs′ ss′ ts′ (r .turn) n
+module _ (m : Memory) (p : Parser) (text : List ℕ) (ss : List (List ℕ)) (turn : Turn) (turns : ℕ) (g : Going m p text ss turn turns) where
+  pub going-next : (r : Taken) (text′ : List ℕ) (ss′ : List (List ℕ)) → TakesPiece (memory p text ss) r text′ ss′ → 0 < turns
+      → (n : ℕ) → n ≡ leftBy (r .turn) turns → Going m (r .parser) text′ ss′ (r .turn) n
   unfolding takes-more
-  going-next r text′ fs′ ss′ ts′ w h n e =
+  going-next r text′ ss′ w h n e =
       record { takes = takes-more (g .takes) (w .takes); count = λ l. go (r .turn) refl l; endless = λ t. more t }
     where
       more : r .turn ≡ More → 18446744073709551615 ≤ n + length (g .takes .input ++ w .takes .input)
@@ -117,7 +118,7 @@ module _ (m : Memory) (p : Parser) (text fs ss ts : List ℕ) (turn : Turn) (tur
       go Ended t l = absurd (omega (arith, e ∙ ap (λ (x : Turn). leftBy x turns) t))
       go Failed t l = absurd (omega (arith, e ∙ ap (λ (x : Turn). leftBy x turns) t))
 
-  pub all-taken : turns ≤ 0 → TakesAll m (record { parser = p; turn = turn }) text fs ss ts
+  pub all-taken : turns ≤ 0 → TakesAll m (record { parser = p; turn = turn }) text ss
   all-taken h = record { takes = g .takes; endless = λ e. omega (arith, g .endless e) }
 
 pub left-less : (turn : Turn) (turns n : ℕ) → 0 < turns → n ≡ leftBy turn turns → n < turns
@@ -134,53 +135,45 @@ left-ended turn turns e = sym (ap (λ (x : Turn). leftBy x turns) e)
 pub left-failed : (turn : Turn) (turns : ℕ) → turn ≡ Failed → 0 ≡ leftBy turn turns
 left-failed turn turns e = sym (ap (λ (x : Turn). leftBy x turns) e)
 
-module _ {p q : Parser} {text fs ss ts text′ fs′ ss′ ts′ : List ℕ} {turn : Turn} {turns : ℕ} (g : Going (memory p text fs ss ts) q text′ fs′ ss′ ts′ turn turns) where
+module _ {p q : Parser} {text text′ : List ℕ} {ss ss′ : List (List ℕ)} {turn : Turn} {turns : ℕ} (g : Going (memory p text ss) q text′ ss′ turn turns) where
   pub text-same : length text′ ≡ length text
-  text-same = ap (λ (m : Memory). length (m .text)) (g .takes .same) ∙ fed-alike (g .takes .input) (memory p text fs ss ts) .text
+  text-same = ap (λ (m : Memory). length (m .text)) (g .takes .same) ∙ fed-alike (g .takes .input) (memory p text ss) .text
 
-  pub firsts-same : length fs′ ≡ length fs
-  firsts-same = ap (λ (m : Memory). length (m .firsts)) (g .takes .same) ∙ fed-alike (g .takes .input) (memory p text fs ss ts) .firsts
+  pub steps-same : length ss′ ≡ length ss
+  steps-same = ap (λ (m : Memory). length (m .steps)) (g .takes .same) ∙ fed-alike (g .takes .input) (memory p text ss) .steps
 
-  pub seconds-same : length ss′ ≡ length ss
-  seconds-same = ap (λ (m : Memory). length (m .seconds)) (g .takes .same) ∙ fed-alike (g .takes .input) (memory p text fs ss ts) .seconds
-
-  pub thirds-same : length ts′ ≡ length ts
-  thirds-same = ap (λ (m : Memory). length (m .thirds)) (g .takes .same) ∙ fed-alike (g .takes .input) (memory p text fs ss ts) .thirds
-
-pub ready-taken : (r : Taken) (text fs ss ts text′ fs′ ss′ ts′ : List ℕ) → Spaces text fs ss ts → TakesAll (memory fresh text fs ss ts) r text′ fs′ ss′ ts′
-    → r .turn ≡ Ended → Ready r text′ fs′ ss′ ts′
-ready-taken r text fs ss ts text′ fs′ ss′ ts′ s a e =
-    record { text₀ = text; firsts₀ = fs; seconds₀ = ss; thirds₀ = ts; spaces = s; takes = a .takes; ended = e }
+pub ready-taken : (r : Taken) (text : List ℕ) (ss : List (List ℕ)) (text′ : List ℕ) (ss′ : List (List ℕ)) → Spaces text ss → TakesAll (memory fresh text ss) r text′ ss′
+    → r .turn ≡ Ended → Ready r text′ ss′
+ready-taken r text ss text′ ss′ s a e =
+    record { text₀ = text; steps₀ = ss; spaces = s; takes = a .takes; ended = e }
 
 -- ---- the line
 
-pub spaces-there : Spaces (replicate 16384 0) (replicate 278528 0) (replicate 278528 0) (replicate 278528 0)
-spaces-there =
+pub spaces-there : (words : List ℕ) → Spaces (replicate inputLimit 0) (replicate stepLimit words)
+spaces-there words =
     record {
-      text-long = omega (arith, length-replicate {A = ℕ} 16384 0);
-      firsts-long = omega (arith, length-replicate {A = ℕ} 278528 0);
-      seconds-long = omega (arith, length-replicate {A = ℕ} 278528 0);
-      thirds-long = omega (arith, length-replicate {A = ℕ} 278528 0);
+      text-long = omega (arith, length-replicate {A = ℕ} inputLimit 0);
+      steps-long = omega (arith, length-replicate {A = List ℕ} stepLimit words);
     }
 
-pub run-verifies : {t : Taken} {q : Parser} {text fs ss ts fs′ ss′ ts′ : List ℕ} {r : Line} → Ready t text fs ss ts
-    → EndsBy finished (t .parser) fs ss ts q fs′ ss′ ts′
-    → PrintsFor q text fs′ ss′ ts′ r
+pub run-verifies : {t : Taken} {q : Parser} {text : List ℕ} {ss ss′ : List (List ℕ)} {r : Line} → Ready t text ss
+    → EndsBy finished (t .parser) ss q ss′
+    → PrintsFor q text ss′ r
     → Verifies r
-run-verifies {t} {q} {text} {fs} {ss} {ts} {fs′} {ss′} {ts′} {r} d e f =
+run-verifies {t} {q} {text} {ss} {ss′} {r} d e f =
     record { line = v .0; verified = record { input = d .takes .input; asked = v .1 }; prints = v .2 }
   where
-    stands : Stands (d .takes .input) (memory (t .parser) text fs ss ts)
+    stands : Stands (d .takes .input) (memory (t .parser) text ss)
     stands =
         subst (Stands (d .takes .input)) (sym (d .takes .same))
-        (stands-fed [] (d .takes .input) (memory fresh (d .text₀) (d .firsts₀) (d .seconds₀) (d .thirds₀))
-        (stands-start (d .text₀) (d .firsts₀) (d .seconds₀) (d .thirds₀) (d .spaces .text-long) (d .spaces .firsts-long) (d .spaces .seconds-long) (d .spaces .thirds-long)))
+        (stands-fed [] (d .takes .input) (memory fresh (d .text₀) (d .steps₀))
+        (stands-start (d .text₀) (d .steps₀) (d .spaces .text-long) (d .spaces .steps-long)))
 
-    whole : Parsed (d .takes .input) (memory q text fs′ ss′ ts′)
-    whole = subst (Parsed (d .takes .input)) (sym (e .same text)) (parsed (d .takes .input) (memory (t .parser) text fs ss ts) stands)
+    whole : Parsed (d .takes .input) (memory q text ss′)
+    whole = subst (Parsed (d .takes .input)) (sym (e .same text)) (parsed (d .takes .input) (memory (t .parser) text ss) stands)
 
     v : (line : List ℕ) × VerifyPrints narrow (d .takes .input) line × Prints line (r .bytes) (r .len)
-    v = verify-prints (d .takes .input) (memory q text fs′ ss′ ts′) r whole f
+    v = verify-prints (d .takes .input) (memory q text ss′) r whole f
 
 module _ (r : Line) (v : Verifies r) where
   pub line-fits : r .len ≤ length (r .bytes)
@@ -191,4 +184,4 @@ module _ (r : Line) (v : Verifies r) where
       subst Verified (sym (front-taken (v .line) (replicate (32 - length (v .line)) 0) (r .bytes) (r .len) (v .prints .size) (v .prints .front))) (v .verified)
 
 pub ruleset mine =
-    (needs, first-count, takes-within, takes-read, turn-ended, turn-more, turn-failed, piece-taken, piece-failed, going-start, going-next, left-more, left-ended, left-failed, left-less, all-taken, text-same, firsts-same, seconds-same, thirds-same, ready-taken, spaces-there, run-verifies, line-fits, line-verified)
+    (needs, first-count, takes-within, takes-read, turn-ended, turn-more, turn-failed, piece-taken, piece-failed, going-start, going-next, left-more, left-ended, left-failed, left-less, all-taken, text-same, steps-same, ready-taken, spaces-there, run-verifies, line-fits, line-verified)

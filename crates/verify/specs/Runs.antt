@@ -35,32 +35,28 @@ leftBy More turns = turns - 1
 leftBy Ended turns = 0
 leftBy Failed turns = 0
 
-pub record Takes (m : Memory) (p : Parser) (text firsts seconds thirds : List ℕ) : Type 0 where
+pub record Takes (m : Memory) (p : Parser) (text : List ℕ) (steps : List (List ℕ)) : Type 0 where
   pub input : List ℕ
-  pub same : memory p text firsts seconds thirds ≡ fed input m
+  pub same : memory p text steps ≡ fed input m
 
-pub record TakesPiece (m : Memory) (r : Taken) (text firsts seconds thirds : List ℕ) : Type 0 where
-  pub takes : Takes m (r .parser) text firsts seconds thirds
+pub record TakesPiece (m : Memory) (r : Taken) (text : List ℕ) (steps : List (List ℕ)) : Type 0 where
+  pub takes : Takes m (r .parser) text steps
   pub some : r .turn ≡ More → 0 < length (takes .input)
 
-pub record TakesAll (m : Memory) (r : Taken) (text firsts seconds thirds : List ℕ) : Type 0 where
-  pub takes : Takes m (r .parser) text firsts seconds thirds
+pub record TakesAll (m : Memory) (r : Taken) (text : List ℕ) (steps : List (List ℕ)) : Type 0 where
+  pub takes : Takes m (r .parser) text steps
   pub endless : r .turn ≡ More → 18446744073709551615 ≤ length (takes .input)
 
-pub record Spaces (text firsts seconds thirds : List ℕ) : Type 0 where
+pub record Spaces (text : List ℕ) (steps : List (List ℕ)) : Type 0 where
   pub text-long : inputLimit ≤ length text
-  pub firsts-long : stepLimit ≤ length firsts
-  pub seconds-long : stepLimit ≤ length seconds
-  pub thirds-long : stepLimit ≤ length thirds
+  pub steps-long : stepLimit ≤ length steps
 
 -- by the spaces before
-pub record Ready (r : Taken) (text firsts seconds thirds : List ℕ) : Type 0 where
+pub record Ready (r : Taken) (text : List ℕ) (steps : List (List ℕ)) : Type 0 where
   pub text₀ : List ℕ
-  pub firsts₀ : List ℕ
-  pub seconds₀ : List ℕ
-  pub thirds₀ : List ℕ
-  pub spaces : Spaces text₀ firsts₀ seconds₀ thirds₀
-  pub takes : Takes (memory fresh text₀ firsts₀ seconds₀ thirds₀) (r .parser) text firsts seconds thirds
+  pub steps₀ : List (List ℕ)
+  pub spaces : Spaces text₀ steps₀
+  pub takes : Takes (memory fresh text₀ steps₀) (r .parser) text steps
   pub ended : r .turn ≡ Ended
 
 pub record Verified (line : List ℕ) : Type 0 where

@@ -9,6 +9,8 @@ use channels::output::put;
 use channels::telling::FAILED;
 use channels::telling::report;
 use channels::telling::tell;
+use grounds_steps::STEPS;
+use grounds_steps::WORDS;
 use intake::Parser;
 use replies::INPUT_LIMIT;
 use reply_lines::Line;
@@ -18,9 +20,6 @@ ghost use Rattle.intake.specs.Machine.{memory, fresh};
 ghost use Rattle.channels.specs.Taking.{Read};
 ghost use Rattle.channels.specs.Sending.{Delivers};
 ghost use Rattle.verify.specs.Runs.{turnOf, leftBy, TakesPiece, TakesAll, Spaces, Ready, Verified, Verifies};
-
-// The most steps.
-const STEPS: usize = 278528;
 
 // After a piece there may be more; the input ended with it; or it could not be read.
 enum Turn {
@@ -52,37 +51,23 @@ fn turn_after(got: Got) -> Turn
 }
 
 // Takes in a piece that was read.
-fn take_in(
-    p: Parser,
-    got: Got,
-    piece: &[u8],
-    text: &mut [u8],
-    firsts: &mut [u64],
-    seconds: &mut [u64],
-    thirds: &mut [u64],
-) -> Taken
+fn take_in(p: Parser, got: Got, piece: &[u8], text: &mut [u8], steps: &mut [[u64; WORDS]]) -> Taken
     requires { ⌜ Read got (now piece) ⌝ }
-    ensures { λ r. ⌜ TakesPiece (memory p (now (text .entry)) (now (firsts .entry)) (now (seconds .entry)) (now (thirds .entry))) r (now (text .exit)) (now (firsts .exit)) (now (seconds .exit)) (now (thirds .exit)) ⌝ }
+    ensures { λ r. ⌜ TakesPiece (memory p (now (text .entry)) (now (steps .entry))) r (now (text .exit)) (now (steps .exit)) ⌝ }
 {
     let turn = turn_after(got);
-    let parser = intake::feed(p, piece, text, firsts, seconds, thirds);
+    let parser = intake::feed(p, piece, text, steps);
     Taken { parser, turn }
 }
 
 // Takes what comes next of standard input.
-fn take_next(
-    p: Parser,
-    text: &mut [u8],
-    firsts: &mut [u64],
-    seconds: &mut [u64],
-    thirds: &mut [u64],
-) -> Taken
-    ensures { λ r. ⌜ TakesPiece (memory p (now (text .entry)) (now (firsts .entry)) (now (seconds .entry)) (now (thirds .entry))) r (now (text .exit)) (now (firsts .exit)) (now (seconds .exit)) (now (thirds .exit)) ⌝ }
+fn take_next(p: Parser, text: &mut [u8], steps: &mut [[u64; WORDS]]) -> Taken
+    ensures { λ r. ⌜ TakesPiece (memory p (now (text .entry)) (now (steps .entry))) r (now (text .exit)) (now (steps .exit)) ⌝ }
 {
     let mut piece = piece_space();
     let got = take_piece(&mut piece);
     match got {
-        Got::Bytes(n) => take_in(p, got, &piece[..n], text, firsts, seconds, thirds),
+        Got::Bytes(n) => take_in(p, got, &piece[..n], text, steps),
         Got::Failed => Taken {
             parser: p,
             turn: Turn::Failed,
@@ -104,14 +89,14 @@ fn left(turn: Turn, turns: usize) -> usize
 
 // Takes all of standard input. Nothing says that it ends, so the turns are counted down from a number that no run uses up; where one does, there
 // may still be more.
-fn take_all(text: &mut [u8], firsts: &mut [u64], seconds: &mut [u64], thirds: &mut [u64]) -> Taken
-    ensures { λ r. ⌜ TakesAll (memory fresh (now (text .entry)) (now (firsts .entry)) (now (seconds .entry)) (now (thirds .entry))) r (now (text .exit)) (now (firsts .exit)) (now (seconds .exit)) (now (thirds .exit)) ⌝ }
+fn take_all(text: &mut [u8], steps: &mut [[u64; WORDS]]) -> Taken
+    ensures { λ r. ⌜ TakesAll (memory fresh (now (text .entry)) (now (steps .entry))) r (now (text .exit)) (now (steps .exit)) ⌝ }
 {
     let mut p = intake::start();
     let mut turn = Turn::More;
     let mut turns = usize::MAX;
     while turns > 0 {
-        let taken = take_next(p, text, firsts, seconds, thirds);
+        let taken = take_next(p, text, steps);
         let parser = taken.parser;
         p = parser;
         turn = taken.turn;
@@ -121,19 +106,13 @@ fn take_all(text: &mut [u8], firsts: &mut [u64], seconds: &mut [u64], thirds: &m
 }
 
 // The line for an input that was taken in to its end.
-fn answer(
-    taken: Taken,
-    text: &mut [u8],
-    firsts: &mut [u64],
-    seconds: &mut [u64],
-    thirds: &mut [u64],
-) -> Line
-    requires { ⌜ Ready taken (now text) (now firsts) (now seconds) (now thirds) ⌝ }
+fn answer(taken: Taken, text: &mut [u8], steps: &mut [[u64; WORDS]]) -> Line
+    requires { ⌜ Ready taken (now text) (now steps) ⌝ }
     ensures { λ r. ⌜ Verifies r ⌝ }
 {
     let p = taken.parser;
-    let q = intake::finish(p, firsts, seconds, thirds);
-    verifying::reply(q, text, firsts, seconds, thirds)
+    let q = intake::finish(p, steps);
+    verifying::reply(q, text, steps)
 }
 
 // Hands over a line that some input asks for.
@@ -154,13 +133,13 @@ fn deliver(line: Line) -> Sent
 }
 
 // Where the input ended, its line is handed over; else there is no reply.
-fn run(text: &mut [u8], firsts: &mut [u64], seconds: &mut [u64], thirds: &mut [u64])
-    requires { ⌜ Spaces (now text) (now firsts) (now seconds) (now thirds) ⌝ }
+fn run(text: &mut [u8], steps: &mut [[u64; WORDS]])
+    requires { ⌜ Spaces (now text) (now steps) ⌝ }
 {
-    let taken = take_all(text, firsts, seconds, thirds);
+    let taken = take_all(text, steps);
     let turn = taken.turn;
     match turn {
-        Turn::Ended => report(deliver(answer(taken, text, firsts, seconds, thirds))),
+        Turn::Ended => report(deliver(answer(taken, text, steps))),
         Turn::More => {
             say_endless();
             tell(FAILED);
@@ -171,8 +150,6 @@ fn run(text: &mut [u8], firsts: &mut [u64], seconds: &mut [u64], thirds: &mut [u
 
 fn main() {
     let mut text = [0u8; INPUT_LIMIT];
-    let mut firsts = [0u64; STEPS];
-    let mut seconds = [0u64; STEPS];
-    let mut thirds = [0u64; STEPS];
-    run(&mut text, &mut firsts, &mut seconds, &mut thirds);
+    let mut steps = [[0u64; WORDS]; STEPS];
+    run(&mut text, &mut steps);
 }

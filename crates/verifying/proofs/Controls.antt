@@ -15,13 +15,14 @@ use Rattle.meaning.specs.Writing.{frame, hex, digitOf}
 use Rattle.meaning.specs.ByTable.{sameList}
 use Rattle.meaning.specs.Sheet.{bytes}
 use Rattle.meaning.specs.Grounds.{Conclusion, conclusionFor, Verdict, accepted, unassigned, caseOf, detailsOf}
-use Rattle.meaning.specs.GroundColumns.{stepFrom, stepsFrom}
+use Rattle.meaning.specs.GroundColumns.{stepFrom}
+use Rattle.grounds_steps.specs.Steps.{stepsOf}
 use Rattle.meaning.specs.Checking.{entryOf, entries, keyOf, keysOf, sameKey, numbered, alike, numberLike, numbersTo, numbersOf, numberBelow, sideOf, counts, isUnequal, ownerBy, sidesBy, usedBy, citedBy, pairedBy, metBy, eachBy, congruentBy, addsBy, addedBy, derivesBy, followsBy, differsBySteps, concludesBy, firstFalse, assignedBy, choose, concludedBy, verdictBy}
-use Rattle.intake.specs.Parsing.{begins, textPart, textOf, groundLines, allDigits, goodLine, digitsOf, byteOf, twoOf, fourOf, eightOf, assigns, placeOf, placesOf, placesIn, formed, wordOf, conclusionOf, wordsIn, conclusionsIn}
+use Rattle.intake.specs.Parsing.{begins, textPart, textOf, groundLines, allDigits, goodLine, digitsOf, byteOf, twoOf, fourOf, eightOf, assigns, placeOf, placesOf, placesIn, formed, wordOf, conclusionOf, stepsIn, conclusionsIn}
 use Rattle.judging.specs.Judgements.{judged}
 use Rattle.judging.proofs.Answers.{judgement-one}
-use Rattle.judging.proofs.Controls.{lullaby, sides, numbers, places, verdictOn, lullaby-short, lullaby-judged}
-use Rattle.verifying.specs.Replies.{bytesOf, printed, column, VerifyPrints, long, many, judges}
+use Rattle.judging.proofs.Controls.{lullaby, grounds, places, verdictOn, lullaby-short, lullaby-judged}
+use Rattle.verifying.specs.Replies.{bytesOf, printed, givenIn, VerifyPrints, long, many, judges}
 
 pub verify-one : (L : Limits) (input a b : List ℕ) → VerifyPrints L input a → VerifyPrints L input b → a ≡ b
 verify-one L input a b (long h) (long k) = refl
@@ -34,7 +35,7 @@ verify-one L input a b (judges h i j v) (long k) = absurd (omega arith)
 verify-one L input a b (judges h i j v) (many k) = absurd (omega arith)
 verify-one L input a b (judges h i j v) (judges k l q w) =
     ap printed
-    (judgement-one (placesIn (groundLines input)) (stepsFrom (column input 0) (column input 1) (column input 2)) (conclusionsIn (drop 1 (groundLines input))) L (textOf input) j q v w)
+    (judgement-one (placesIn (groundLines input)) (stepsOf (givenIn input)) (conclusionsIn (drop 1 (groundLines input))) L (textOf input) j q v w)
 
 -- ---- the lullaby, and behind it its grounds
 
@@ -50,17 +51,15 @@ grounded-text = refl
 
 grounded-lines :
     (placesIn (groundLines grounded) ≡ places)
-    × (column grounded 0 ≡ sides)
-    × (column grounded 1 ≡ numbers)
-    × (column grounded 2 ≡ replicate 8 0)
+    × (givenIn grounded ≡ grounds)
     × (conclusionsIn (drop 1 (groundLines grounded)) ≡ ends)
-unfolding grounded bytes textPart begins linesOf linesFrom digit allDigits goodLine digitsOf byteOf twoOf fourOf eightOf assigns placeOf placesOf placesIn formed wordOf conclusionOf wordsIn conclusionsIn
-grounded-lines = (refl, refl, refl, refl, refl)
+unfolding grounded bytes textPart begins linesOf linesFrom digit allDigits goodLine digitsOf byteOf twoOf fourOf eightOf assigns placeOf placesOf placesIn formed wordOf conclusionOf stepsIn conclusionsIn
+grounded-lines = (refl, refl, refl)
 
 computed :
-    (verdictOn places (stepsFrom sides numbers (replicate 8 0)) ends ≡ accepted)
+    (verdictOn places (stepsOf grounds) ends ≡ accepted)
     × (verdictOn (replicate 4 255) [] [] ≡ unassigned 0)
-unfolding stepFrom stepsFrom entryOf entries keyOf keysOf sameKey numbered alike numberLike numbersTo numbersOf numberBelow sideOf counts isUnequal ownerBy sidesBy usedBy citedBy pairedBy metBy eachBy congruentBy addsBy addedBy derivesBy followsBy differsBySteps concludesBy firstFalse assignedBy choose concludedBy verdictBy sameList conclusionFor variables equationsOf differencesOf
+unfolding stepsOf stepFrom entryOf entries keyOf keysOf sameKey numbered alike numberLike numbersTo numbersOf numberBelow sideOf counts isUnequal ownerBy sidesBy usedBy citedBy pairedBy metBy eachBy congruentBy addsBy addedBy derivesBy followsBy differsBySteps concludesBy firstFalse assignedBy choose concludedBy verdictBy sameList conclusionFor variables equationsOf differencesOf
 computed = (refl, refl)
 
 bare-text : textOf lullaby ≡ lullaby
@@ -69,38 +68,35 @@ bare-text = refl
 
 bare-lines :
     (placesIn (groundLines lullaby) ≡ replicate 4 255)
-    × (column lullaby 0 ≡ [])
-    × (column lullaby 1 ≡ [])
-    × (column lullaby 2 ≡ [])
+    × (givenIn lullaby ≡ [])
     × (conclusionsIn (drop 1 (groundLines lullaby)) ≡ [])
-unfolding lullaby bytes textPart begins linesOf linesFrom placesIn wordsIn conclusionsIn
-bare-lines = (refl, refl, refl, refl, refl)
+unfolding lullaby bytes textPart begins linesOf linesFrom placesIn stepsIn conclusionsIn
+bare-lines = (refl, refl, refl)
 
 -- ---- the lines for them
 
--- an input that is the lullaby, and behind it these columns and conclusions
-line-for : (input a xs ys zs : List ℕ) (ds : List Conclusion) (v : Verdict) → textOf input ≡ lullaby → placesIn (groundLines input) ≡ a → column input 0 ≡ xs → column input 1 ≡ ys
-    → column input 2 ≡ zs
+-- an input that is the lullaby, and behind it these steps and conclusions
+line-for : (input a : List ℕ) (steps : List (List ℕ)) (ds : List Conclusion) (v : Verdict) → textOf input ≡ lullaby → placesIn (groundLines input) ≡ a → givenIn input ≡ steps
     → conclusionsIn (drop 1 (groundLines input)) ≡ ds
-    → length xs ≤ 8
-    → verdictOn a (stepsFrom xs ys zs) ds ≡ v
+    → length steps ≤ 8
+    → verdictOn a (stepsOf steps) ds ≡ v
     → VerifyPrints narrow input (printed (judged v))
-line-for input a xs ys zs ds v t p x y z d few e =
-    judges (omega (arith, ap length t, lullaby-short)) (omega (arith, ap length x)) (judged v) (rw (p, x, y, z, d, t) (lullaby-judged a (stepsFrom xs ys zs) ds v e))
+line-for input a steps ds v t p s d few e =
+    judges (omega (arith, ap length t, lullaby-short)) (omega (arith, ap length s)) (judged v) (rw (p, s, d, t) (lullaby-judged a (stepsOf steps) ds v e))
 
 module _ (f : List ℕ → List ℕ) (right : (input : List ℕ) → VerifyPrints narrow input (f input)) where
   pub some-accepted : f grounded ≡ bytes "0B00\n"
   unfolding printed bytesOf frame hex digitOf caseOf detailsOf bytes
   some-accepted =
       verify-one narrow grounded (f grounded) (printed (judged accepted)) (right grounded)
-      (line-for grounded places sides numbers (replicate 8 0) ends accepted grounded-text (grounded-lines .0) (grounded-lines .1) (grounded-lines .2) (grounded-lines .3) (grounded-lines .4) (omega arith)
+      (line-for grounded places grounds ends accepted grounded-text (grounded-lines .0) (grounded-lines .1) (grounded-lines .2) (omega arith)
       (computed .0))
 
   pub some-unassigned : f lullaby ≡ bytes "0B0100\n"
-  unfolding printed bytesOf frame hex digitOf caseOf detailsOf bytes stepsFrom
+  unfolding printed bytesOf frame hex digitOf caseOf detailsOf bytes stepsOf
   some-unassigned =
       verify-one narrow lullaby (f lullaby) (printed (judged (unassigned 0))) (right lullaby)
-      (line-for lullaby (replicate 4 255) [] [] [] [] (unassigned 0) bare-text (bare-lines .0) (bare-lines .1) (bare-lines .2) (bare-lines .3) (bare-lines .4) (omega arith) (computed .1))
+      (line-for lullaby (replicate 4 255) [] [] (unassigned 0) bare-text (bare-lines .0) (bare-lines .1) (bare-lines .2) (omega arith) (computed .1))
 
   -- prints one line for both; prints nothing
   pub no-always-alike : f grounded ≡ f lullaby → ⊥

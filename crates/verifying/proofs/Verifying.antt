@@ -5,7 +5,7 @@
 use mathlib.Core.Bool.{Bool, true, false}
 use mathlib.Core.List.{List, [], _∷_, append-nil}
 use mathlib.Core.Path.{_≡_, refl, ap, sym, _∙_, subst}
-use Prim.Native.Nat.{ℕ, zero, suc, _%_, _≤_, _<_}
+use Prim.Native.Nat.{ℕ, suc, _%_, _≤_, _<_}
 use native.Mathlib.Omega.{arith}
 use lib.Dec.{ltb}
 use borrow.Author.Tests.{ltb-true, ltb-false}
@@ -14,13 +14,14 @@ use Rattle.meaning.specs.Context.{Context}
 use Rattle.meaning.specs.Rules.{Pattern, variable, apply, variables, Clause}
 use Rattle.meaning.specs.Text.{narrow}
 use Rattle.meaning.specs.Writing.{frame}
-use Rattle.meaning.specs.Replies.{refusal}
+use Rattle.meaning.specs.Replies.{refusal, inputLimit}
 use Rattle.meaning.specs.Grounds.{Step, Conclusion, conclusionFor, Verdict, accepted, unassigned, bad, unconcluded, caseOf, detailsOf, Concludes, literalAt, Verified, accepts, unassigns, refuses, leaves-open}
-use Rattle.meaning.specs.GroundColumns.{stepFrom, stepsFrom}
 use Rattle.meaning.proofs.Lines.{Each}
 use Rattle.meaning.proofs.Kept.{PatternFits, read-kept}
 use Rattle.verifier.specs.Claims.{verdictOf}
-use Rattle.verifier.proofs.Judging.{conclusions-at}
+use Rattle.runs.specs.Limits.{mostLiterals}
+use Rattle.grounds_steps.specs.Steps.{stepsOf}
+use Rattle.verifier.proofs.Concluding.{conclusions-at}
 use Rattle.judging.specs.Judgements.{Judgement, judged, refused, Weighed, empty, clashes, weighs, Judges, faults, judges}
 use Rattle.judging.specs.Claims.{judgementOf, concludedIn}
 use Rattle.judging.specs.declared.Outcome.{Outcome}
@@ -31,8 +32,8 @@ use Rattle.intake.specs.Machine.{Memory}
 use Rattle.intake.specs.declared.Parser.{Parser}
 use Rattle.intake.proofs.Filled.{Sized, stored-all}
 use Rattle.intake.proofs.Noting.{notes-count}
-use Rattle.intake.proofs.Standing.{Parsed, words-long}
-use Rattle.verifying.specs.Replies.{bytesOf, printed, column, VerifyPrints, long, many, judges as judged-as}
+use Rattle.intake.proofs.Standing.{Parsed}
+use Rattle.verifying.specs.Replies.{bytesOf, printed, stepLimit, givenIn, VerifyPrints, long, many, judges as judged-as}
 use Rattle.verifying.specs.Claims.{lowest, lineOf, PrintsFor, over, past, answers}
 use Rattle.reply_lines.specs.Prints.{Prints}
 use Rattle.reply_lines.specs.declared.Line.{Line}
@@ -53,16 +54,6 @@ within-most most n size s h = go (ltb n (suc most)) refl
     go : (c : Bool) → ltb n (suc most) ≡ c → n ≤ most
     go true q = omega (arith, ltb-true n (suc most) q)
     go false q = omega (arith, s .full (ltb-false n (suc most) q))
-
--- ---- steps
-
-cut-steps : (n : ℕ) (xs ys zs : List ℕ) → stepsFrom (take n xs) ys zs ≡ stepsFrom (take n xs) (take n ys) (take n zs)
-unfolding stepsFrom
-cut-steps zero xs ys zs = refl
-cut-steps (suc n) [] ys zs = refl
-cut-steps (suc n) (x ∷ xs) [] zs = refl
-cut-steps (suc n) (x ∷ xs) (y ∷ ys) [] = refl
-cut-steps (suc n) (x ∷ xs) (y ∷ ys) (z ∷ zs) = ap (λ (l : List Step). stepFrom x y z ∷ l) (cut-steps n xs ys zs)
 
 -- ---- the same conclusions for the literals that there are
 
@@ -92,7 +83,7 @@ module _ (a : List ℕ) (steps : List Step) (ds es : List Conclusion) where
     weighed-alike j (clashes e n w) = clashes e n w
     weighed-alike j (weighs e w v z) = weighs e w v (verified-alike v z)
 
-  judges-alike : (text : List ℕ) (j : Judgement) → Alike 16 → Judges a steps ds narrow text j → Judges a steps es narrow text j
+  judges-alike : (text : List ℕ) (j : Judgement) → Alike mostLiterals → Judges a steps ds narrow text j → Judges a steps es narrow text j
   judges-alike text j f (faults x e) = faults x e
   judges-alike text j f (judges s e x w) =
       judges s e j (weighed-alike (s .ledger .context) (s .clause) (λ i h. f i (omega (arith, read-kept narrow text s e .clauseFits .fewLiterals))) j w)
@@ -129,53 +120,41 @@ module _ (a : List ℕ) (steps : List Step) (ds : List Conclusion) (text : List 
 
 -- ---- the line
 
-pub verify-prints : (input : List ℕ) (m : Memory) (r : Line) → Parsed input m → PrintsFor (m .parser) (m .text) (m .firsts) (m .seconds) (m .thirds) r
+pub verify-prints : (input : List ℕ) (m : Memory) (r : Line) → Parsed input m → PrintsFor (m .parser) (m .text) (m .steps) r
     → (line : List ℕ) × VerifyPrints narrow input line × Prints line (r .bytes) (r .len)
-verify-prints input m r w (over h p) = (printed (refused (refusal 11 0)), long (past-most 16384 (length (textOf input)) (m .parser .head .size) (w .sized) h), p)
-verify-prints input m r w (past h k p) = (printed (refused (refusal 11 0)), many (past-most 278528 (length (column input 0)) (m .parser .steps) (w .gathered .counted) k), p)
+verify-prints input m r w (over h p) = (printed (refused (refusal 11 0)), long (past-most inputLimit (length (textOf input)) (m .parser .head .size) (w .sized) h), p)
+verify-prints input m r w (past h k p) = (printed (refused (refusal 11 0)), many (past-most stepLimit (length (givenIn input)) (m .parser .steps) (w .gathered .counted) k), p)
 verify-prints input m r w (answers h k o q p) =
-    (printed (judgementOf o), judged-as (within-most 16384 (length (textOf input)) (m .parser .head .size) (w .sized) h) (within-most 278528 (length (column input 0)) (m .parser .steps) (w .gathered .counted) k) (judgementOf o) judged-so, subst (λ (l : List ℕ). Prints l (r .bytes) (r .len)) (line-is (placesIn (groundLines input)) (stepsFrom (column input 0) (column input 1) (column input 2)) (conclusionsIn (drop 1 (groundLines input))) (textOf input) o judged-so) p)
+    (printed (judgementOf o), judged-as (within-most inputLimit (length (textOf input)) (m .parser .head .size) (w .sized) h) (within-most stepLimit (length (givenIn input)) (m .parser .steps) (w .gathered .counted) k) (judgementOf o) judged-so, subst (λ (l : List ℕ). Prints l (r .bytes) (r .len)) (line-is (placesIn (groundLines input)) (stepsOf (givenIn input)) (conclusionsIn (drop 1 (groundLines input))) (textOf input) o judged-so) p)
   where
     text-is : take (m .parser .head .size) (m .text) ≡ textOf input
-    text-is = stored-all 16384 (m .text) (textOf input) (m .parser .head .size) (w .sized) (w .text) h
+    text-is = stored-all 0 inputLimit (m .text) (textOf input) (m .parser .head .size) (w .sized) (w .text) h
 
-    first-is : take (m .parser .steps) (m .firsts) ≡ column input 0
-    first-is = stored-all 278528 (m .firsts) (column input 0) (m .parser .steps) (w .gathered .counted) (w .gathered .firsts) k
+    steps-are : take (m .parser .steps) (m .steps) ≡ givenIn input
+    steps-are = stored-all [] stepLimit (m .steps) (givenIn input) (m .parser .steps) (w .gathered .counted) (w .gathered .stored) k
 
-    sized : (i : ℕ) → Sized 278529 (length (column input i)) (m .parser .steps)
-    sized i = rw (words-long i (drop 1 (groundLines input))) (w .gathered .counted)
-
-    steps-are : stepsFrom (take (m .parser .steps) (m .firsts)) (m .seconds) (m .thirds) ≡ stepsFrom (column input 0) (column input 1) (column input 2)
-    steps-are =
-        cut-steps (m .parser .steps) (m .firsts) (m .seconds) (m .thirds)
-        ∙ rw (
-          first-is,
-          stored-all 278528 (m .seconds) (column input 1) (m .parser .steps) (sized 1) (w .gathered .seconds) k,
-          stored-all 278528 (m .thirds) (column input 2) (m .parser .steps) (sized 2) (w .gathered .thirds) k,
-        )
-
-    alike : (i : ℕ) → i < 16 → conclusionFor (suc i) (concludedIn (m .parser .noted .conclusions)) ≡ conclusionFor (suc i) (conclusionsIn (drop 1 (groundLines input)))
+    alike : (i : ℕ) → i < mostLiterals → conclusionFor (suc i) (concludedIn (m .parser .noted .conclusions)) ≡ conclusionFor (suc i) (conclusionsIn (drop 1 (groundLines input)))
     alike i l =
         ap (conclusionFor (suc i)) (sym (append-nil (concludedIn (m .parser .noted .conclusions))))
-        ∙ conclusions-at (m .parser .noted .conclusions .firsts) (m .parser .noted .conclusions .differences) 16 i [] l
+        ∙ conclusions-at (m .parser .noted .conclusions .firsts) (m .parser .noted .conclusions .differences) mostLiterals i [] l
         ∙ notes-count (m .parser .noted) (conclusionsIn (drop 1 (groundLines input))) (w .gathered .notes) i l
 
-    judged-so : Judges (placesIn (groundLines input)) (stepsFrom (column input 0) (column input 1) (column input 2)) (conclusionsIn (drop 1 (groundLines input))) narrow (textOf input) (judgementOf o)
+    judged-so : Judges (placesIn (groundLines input)) (stepsOf (givenIn input)) (conclusionsIn (drop 1 (groundLines input))) narrow (textOf input) (judgementOf o)
     judged-so =
-        judges-alike (placesIn (groundLines input)) (stepsFrom (column input 0) (column input 1) (column input 2)) (concludedIn (m .parser .noted .conclusions)) (conclusionsIn (drop 1 (groundLines input))) (textOf input) (judgementOf o) alike
+        judges-alike (placesIn (groundLines input)) (stepsOf (givenIn input)) (concludedIn (m .parser .noted .conclusions)) (conclusionsIn (drop 1 (groundLines input))) (textOf input) (judgementOf o) alike
         (rw (← w .places, ← steps-are, ← text-is) (q .judges .judges))
 
 -- ---- one line
 
-pub reply-one : (p : Parser) (text firsts seconds thirds : List ℕ) (r s : Line) → PrintsFor p text firsts seconds thirds r → PrintsFor p text firsts seconds thirds s → r ≡ s
-reply-one p text firsts seconds thirds r s (over h x) (over k y) = line-one r s x y
-reply-one p text firsts seconds thirds r s (over h x) (past k l y) = absurd (omega arith)
-reply-one p text firsts seconds thirds r s (over h x) (answers k l o w y) = absurd (omega arith)
-reply-one p text firsts seconds thirds r s (past h i x) (over k y) = absurd (omega arith)
-reply-one p text firsts seconds thirds r s (past h i x) (past k l y) = line-one r s x y
-reply-one p text firsts seconds thirds r s (past h i x) (answers k l o w y) = absurd (omega arith)
-reply-one p text firsts seconds thirds r s (answers h i o w x) (over k y) = absurd (omega arith)
-reply-one p text firsts seconds thirds r s (answers h i o w x) (past k l y) = absurd (omega arith)
-reply-one p text firsts seconds thirds r s (answers h i o w x) (answers k l u v y) =
-    let e : o ≡ u = judges-one (take (p .head .size) text) (p .places) (take (p .steps) firsts) seconds thirds (p .noted .conclusions) o u (w .judges) (v .judges) in
+pub reply-one : (p : Parser) (text : List ℕ) (steps : List (List ℕ)) (r s : Line) → PrintsFor p text steps r → PrintsFor p text steps s → r ≡ s
+reply-one p text steps r s (over h x) (over k y) = line-one r s x y
+reply-one p text steps r s (over h x) (past k l y) = absurd (omega arith)
+reply-one p text steps r s (over h x) (answers k l o w y) = absurd (omega arith)
+reply-one p text steps r s (past h i x) (over k y) = absurd (omega arith)
+reply-one p text steps r s (past h i x) (past k l y) = line-one r s x y
+reply-one p text steps r s (past h i x) (answers k l o w y) = absurd (omega arith)
+reply-one p text steps r s (answers h i o w x) (over k y) = absurd (omega arith)
+reply-one p text steps r s (answers h i o w x) (past k l y) = absurd (omega arith)
+reply-one p text steps r s (answers h i o w x) (answers k l u v y) =
+    let e : o ≡ u = judges-one (take (p .head .size) text) (p .places) (take (p .steps) steps) (p .noted .conclusions) o u (w .judges) (v .judges) in
     line-one r s (subst (λ (z : Outcome). Prints (lineOf z) (r .bytes) (r .len)) e x) y

@@ -15,7 +15,7 @@ use lib.Seq.{take-all, take-length}
 use Rattle.meaning.specs.Grounds.{caseOf, detailsOf}
 use Rattle.meaning.specs.Text as M
 use Rattle.meaning.specs.Replies as R
-use Rattle.meaning.specs.Replies.{refusal}
+use Rattle.meaning.specs.Replies.{refusal, inputLimit}
 use Rattle.meaning.specs.Writing.{frame}
 use Rattle.verifier.specs.declared.Answer.{Answer}
 use Rattle.verifier.specs.declared.Answer.the-variants.{Accepted, Unassigned, Bad, Unconcluded}
@@ -27,7 +27,7 @@ use Rattle.judging.specs.Claims.{JudgesTo}
 use Rattle.judging.specs.declared.Outcome.{Outcome}
 use Rattle.judging.specs.declared.Outcome.the-variants.{Judged, Refused}
 use Rattle.intake.specs.declared.Parser.{Parser}
-use Rattle.verifying.specs.Replies.{bytesOf, printed}
+use Rattle.verifying.specs.Replies.{bytesOf, printed, stepLimit}
 use Rattle.verifying.specs.Claims.{verdictLine, lineOf, Answered, PrintsFor, over, past, answers}
 use Rattle.reply_lines.specs.Prints.{Prints}
 use Rattle.reply_lines.specs.declared.Line.{Line}
@@ -72,31 +72,31 @@ module _ (o : Outcome) (bytes : List ℕ) (len : ℕ) where
 
 -- ---- what was taken in
 
-pub front-is : (n m : ℕ) (l r : List ℕ) → m ≡ min n (length l) → r ≡ take (m - 0) (drop 0 l) → r ≡ take n l
-front-is n m l r e f = f ∙ ap (λ (x : ℕ). take x l) (sub-zero m ∙ e) ∙ cut n l
+pub front-is : {A : Type 0} (n m : ℕ) (l r : List A) → m ≡ min n (length l) → r ≡ take (m - 0) (drop 0 l) → r ≡ take n l
+front-is {A} n m l r e f = f ∙ ap (λ (x : ℕ). take x l) (sub-zero m ∙ e) ∙ cut n l
   where
-    cut : (k : ℕ) (x : List ℕ) → take (min k (length x)) x ≡ take k x
+    cut : (k : ℕ) (x : List A) → take (min k (length x)) x ≡ take k x
     cut k x = go (ltb k (length x)) refl
       where
         go : (c : Bool) → ltb k (length x) ≡ c → take (min k (length x)) x ≡ take k x
         go true q = let z : min k (length x) ≡ k = omega (arith, ltb-true k (length x) q) in rw z
         go false q = let z : min k (length x) ≡ length x = omega (arith, ltb-false k (length x) q) in rw z (take-length x ∙ sym (take-all k x (ltb-false k (length x) q)))
 
-module _ (p : Parser) (text firsts seconds thirds : List ℕ) where
-  pub answered : (o : Outcome) (t x : List ℕ) → t ≡ take (p .head .size) text → x ≡ take (p .steps) firsts
-      → JudgesTo t (p .places) x seconds thirds (p .noted .conclusions) o
-      → Answered p text firsts seconds thirds o
+module _ (p : Parser) (text : List ℕ) (steps : List (List ℕ)) where
+  pub answered : (o : Outcome) (t : List ℕ) (x : List (List ℕ)) → t ≡ take (p .head .size) text → x ≡ take (p .steps) steps
+      → JudgesTo t (p .places) x (p .noted .conclusions) o
+      → Answered p text steps o
   answered o t x e f w = record { judges = rw (← e, ← f) w }
 
   module _ (r : Line) where
-    pub prints-over : 16384 < p .head .size → Prints (R.printed (R.refused (refusal 11 0))) (r .bytes) (r .len) → PrintsFor p text firsts seconds thirds r
+    pub prints-over : inputLimit < p .head .size → Prints (R.printed (R.refused (refusal 11 0))) (r .bytes) (r .len) → PrintsFor p text steps r
     prints-over h w = over h (rw (refused-printed (refusal 11 0)) at w)
 
-    pub prints-past : p .head .size ≤ 16384 → 278528 < p .steps → Prints (R.printed (R.refused (refusal 11 0))) (r .bytes) (r .len) → PrintsFor p text firsts seconds thirds r
+    pub prints-past : p .head .size ≤ inputLimit → stepLimit < p .steps → Prints (R.printed (R.refused (refusal 11 0))) (r .bytes) (r .len) → PrintsFor p text steps r
     prints-past h k w = past h k (rw (refused-printed (refusal 11 0)) at w)
 
-    pub prints-answer : (o : Outcome) → p .head .size ≤ 16384 → p .steps ≤ 278528 → Answered p text firsts seconds thirds o → Prints (lineOf o) (r .bytes) (r .len)
-        → PrintsFor p text firsts seconds thirds r
+    pub prints-answer : (o : Outcome) → p .head .size ≤ inputLimit → p .steps ≤ stepLimit → Answered p text steps o → Prints (lineOf o) (r .bytes) (r .len)
+        → PrintsFor p text steps r
     prints-answer o h k w q = answers h k o w q
 
 pub ruleset mine = (

@@ -8,7 +8,7 @@ use mathlib.Core.List.{List, _∷_, map}
 use Prim.Native.Nat.{ℕ, _%_, _≤_, _<_}
 use lib.ListN.{take}
 use Rattle.meaning.specs.Writing.{frame}
-use Rattle.meaning.specs.Replies.{refusal}
+use Rattle.meaning.specs.Replies.{refusal, inputLimit}
 use Rattle.meaning.specs.Grounds.{Verdict, caseOf, detailsOf}
 use Rattle.verifier.specs.Claims.{verdictOf}
 use Rattle.replies.specs.Told.{meant}
@@ -18,7 +18,7 @@ use Rattle.judging.specs.declared.Outcome.{Outcome}
 use Rattle.judging.specs.declared.Outcome.the-variants.{Judged, Refused}
 use Rattle.intake.specs.declared.Parser.{Parser}
 use Rattle.reply_lines.specs.Prints.{Prints}
-use Rattle.verifying.specs.Replies.{printed}
+use Rattle.verifying.specs.Replies.{printed, stepLimit}
 use Rattle.reply_lines.specs.declared.Line.{Line}
 
 abbrev pub lowest : List ℕ → List ℕ
@@ -32,14 +32,11 @@ abbrev pub lineOf : Outcome → List ℕ
 lineOf (Judged a) = verdictLine (verdictOf a)
 lineOf (Refused x) = printed (refused (meant x))
 
--- the steps are as many as the shortest column has places
-pub record Answered (p : Parser) (text firsts seconds thirds : List ℕ) (o : Outcome) : Type 0 where
-  pub judges : JudgesTo (take (p .head .size) text) (p .places) (take (p .steps) firsts) seconds thirds (p .noted .conclusions) o
+pub record Answered (p : Parser) (text : List ℕ) (steps : List (List ℕ)) (o : Outcome) : Type 0 where
+  pub judges : JudgesTo (take (p .head .size) text) (p .places) (take (p .steps) steps) (p .noted .conclusions) o
 
-pub data PrintsFor (p : Parser) (text firsts seconds thirds : List ℕ) (r : Line) : Type 0 where
-  over : 16384 < p .head .size → Prints (printed (refused (refusal 11 0))) (r .bytes) (r .len) → PrintsFor p text firsts seconds thirds r
-  past : p .head .size ≤ 16384 → 278528 < p .steps → Prints (printed (refused (refusal 11 0))) (r .bytes) (r .len) → PrintsFor p text firsts seconds thirds r
-  answers : p .head .size ≤ 16384 → p .steps ≤ 278528 → (o : Outcome)
-      → Answered p text firsts seconds thirds o
-      → Prints (lineOf o) (r .bytes) (r .len)
-      → PrintsFor p text firsts seconds thirds r
+pub data PrintsFor (p : Parser) (text : List ℕ) (steps : List (List ℕ)) (r : Line) : Type 0 where
+  over : inputLimit < p .head .size → Prints (printed (refused (refusal 11 0))) (r .bytes) (r .len) → PrintsFor p text steps r
+  past : p .head .size ≤ inputLimit → stepLimit < p .steps → Prints (printed (refused (refusal 11 0))) (r .bytes) (r .len) → PrintsFor p text steps r
+  answers : p .head .size ≤ inputLimit → p .steps ≤ stepLimit → (o : Outcome) → Answered p text steps o → Prints (lineOf o) (r .bytes) (r .len)
+      → PrintsFor p text steps r

@@ -11,9 +11,9 @@ use Rattle.meaning.specs.Writing.{frame}
 use Rattle.meaning.specs.Replies as M
 use Rattle.meaning.specs.Replies.{refusal, codeOf, valuesOf, inputLimit}
 use Rattle.meaning.specs.Grounds.{caseOf, detailsOf}
-use Rattle.meaning.specs.GroundColumns.{stepsFrom}
+use Rattle.grounds_steps.specs.Steps.{stepsOf, mostSteps}
 use Rattle.judging.specs.Judgements.{Judgement, judged, refused, Judges}
-use Rattle.intake.specs.Parsing.{textOf, groundLines, placesIn, wordsIn, conclusionsIn}
+use Rattle.intake.specs.Parsing.{textOf, groundLines, placesIn, stepsIn, conclusionsIn}
 
 unfoldable pub bytesOf : Judgement → List ℕ
 bytesOf (judged v) = 11 ∷ caseOf v ∷ detailsOf v
@@ -24,15 +24,15 @@ printed j = frame (bytesOf j)
 
 -- the most steps that the program takes
 abbrev pub stepLimit : ℕ
-stepLimit = 278528
+stepLimit = mostSteps
 
--- the column of words i of all steps
-abbrev pub column : List ℕ → ℕ → List ℕ
-column input i = wordsIn i (drop 1 (groundLines input))
+-- the words of all steps
+abbrev pub givenIn : List ℕ → List (List ℕ)
+givenIn input = stepsIn (drop 1 (groundLines input))
 
 pub data VerifyPrints (L : Limits) (input : List ℕ) : List ℕ → Type 0 where
   long : inputLimit < length (textOf input) → VerifyPrints L input (printed (refused (refusal 11 0)))
-  many : stepLimit < length (column input 0) → VerifyPrints L input (printed (refused (refusal 11 0)))
-  judges : length (textOf input) ≤ inputLimit → length (column input 0) ≤ stepLimit → (j : Judgement)
-      → Judges (placesIn (groundLines input)) (stepsFrom (column input 0) (column input 1) (column input 2)) (conclusionsIn (drop 1 (groundLines input))) L (textOf input) j
+  many : stepLimit < length (givenIn input) → VerifyPrints L input (printed (refused (refusal 11 0)))
+  judges : length (textOf input) ≤ inputLimit → length (givenIn input) ≤ stepLimit → (j : Judgement)
+      → Judges (placesIn (groundLines input)) (stepsOf (givenIn input)) (conclusionsIn (drop 1 (groundLines input))) L (textOf input) j
       → VerifyPrints L input (printed j)

@@ -1,4 +1,6 @@
 // What the program `verify` prints.
+use grounds_steps::STEPS;
+use grounds_steps::WORDS;
 use intake::Parser;
 use judging::Outcome;
 use judging::judge;
@@ -14,9 +16,6 @@ ghost use lib.ListN.{length, take, drop};
 ghost use Rattle.verifier.specs.Claims.{verdictOf};
 ghost use Rattle.reply_lines.specs.Prints.{Prints};
 ghost use Rattle.verifying.specs.Claims.{verdictLine, lineOf, Answered, PrintsFor};
-
-// The most steps.
-const MOST_STEPS: usize = 278528;
 
 fn low(n: usize) -> u8
     ensures { λ r. ⌜ r ≡ n % 256 ⌝ }
@@ -70,8 +69,8 @@ fn bytes_between(s: &[u8], a: usize, e: usize) -> &[u8]
     &s[a..e]
 }
 
-// The words from a to before e.
-fn words_between(s: &[u64], a: usize, e: usize) -> &[u64]
+// The steps from a to before e.
+fn steps_between(s: &[[u64; WORDS]], a: usize, e: usize) -> &[[u64; WORDS]]
     requires { ⌜ (a ≤ e) × (e ≤ length (now s)) ⌝ }
     ensures { λ r. ⌜ now r ≡ take (e - a) (drop a (now (s .entry))) ⌝ }
 {
@@ -86,57 +85,38 @@ fn front(text: &[u8], n: usize) -> &[u8]
     bytes_between(text, 0, m)
 }
 
-// The first n words, or all of them.
-fn words(column: &[u64], n: usize) -> &[u64]
-    ensures { λ r. ⌜ now r ≡ take n (now (column .entry)) ⌝ }
+// The first n steps, or all of them.
+fn first_steps(steps: &[[u64; WORDS]], n: usize) -> &[[u64; WORDS]]
+    ensures { λ r. ⌜ now r ≡ take n (now (steps .entry)) ⌝ }
 {
-    let m = least(n, column.len());
-    words_between(column, 0, m)
+    let m = least(n, steps.len());
+    steps_between(steps, 0, m)
 }
 
-// The judgement on what was taken in. The shortest column says how many steps there are.
-fn outcome<'a>(
-    p: Parser,
-    text: &'a [u8],
-    firsts: &'a [u64],
-    seconds: &'a [u64],
-    thirds: &'a [u64],
-) -> Outcome
-    ensures { λ o. ⌜ Answered p (now (text .entry)) (now (firsts .entry)) (now (seconds .entry)) (now (thirds .entry)) o ⌝ }
+// The judgement on what was taken in.
+fn outcome<'a>(p: Parser, text: &'a [u8], steps: &'a [[u64; WORDS]]) -> Outcome
+    ensures { λ o. ⌜ Answered p (now (text .entry)) (now (steps .entry)) o ⌝ }
 {
     let head = p.head;
     let size = head.size;
-    let steps = p.steps;
+    let n = p.steps;
     let places = p.places;
     let noted = p.noted;
     let d = noted.conclusions;
-    judge(
-        front(text, size),
-        places,
-        words(firsts, steps),
-        seconds,
-        thirds,
-        d,
-    )
+    judge(front(text, size), places, first_steps(steps, n), d)
 }
 
 // The line for what was taken in: 11 for a text or steps that are too long, else the judgement on the grounds.
-pub fn reply<'a>(
-    p: Parser,
-    text: &'a [u8],
-    firsts: &'a [u64],
-    seconds: &'a [u64],
-    thirds: &'a [u64],
-) -> Line
-    ensures prints { λ r. ⌜ PrintsFor p (now (text .entry)) (now (firsts .entry)) (now (seconds .entry)) (now (thirds .entry)) r ⌝ }
+pub fn reply<'a>(p: Parser, text: &'a [u8], steps: &'a [[u64; WORDS]]) -> Line
+    ensures prints { λ r. ⌜ PrintsFor p (now (text .entry)) (now (steps .entry)) r ⌝ }
 {
     let head = p.head;
     if INPUT_LIMIT < head.size {
         return over_line();
     }
-    if MOST_STEPS < p.steps {
+    if STEPS < p.steps {
         return over_line();
     }
-    let o = outcome(p, text, firsts, seconds, thirds);
+    let o = outcome(p, text, steps);
     outcome_line(o)
 }

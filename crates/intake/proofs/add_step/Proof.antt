@@ -22,12 +22,6 @@ with-step-requires c κs = search ends
 same-length : tie.Need-same-length
 same-length c = search ends
 
-same-length-2 : tie.Need-same-length-2
-same-length-2 c = search ends
-
-same-length-3 : tie.Need-same-length-3
-same-length-3 c = search ends
-
 returns : tie.Need-returns
 returns c = search ends
 
@@ -41,6 +35,4 @@ add-step-spec =
     put-step-requires
     with-step-requires
     same-length
-    same-length-2
-    same-length-3
     returns)

@@ -9,10 +9,10 @@ use Rattle.intake.proofs.feed.Statement.{statement}
 use Rattle.intake.proofs.feed.Tie as tie
 
 abbrev Inv-loop : tie.InvT-loop
-Inv-loop piece text₀ firsts₀ seconds₀ thirds₀ q₀ k₀ text firsts seconds thirds q k = Feeding (memory q₀ text₀ firsts₀ seconds₀ thirds₀) piece k q text firsts seconds thirds
+Inv-loop piece text₀ steps₀ q₀ k₀ text steps q k = Feeding (memory q₀ text₀ steps₀) piece k q text steps
 
 abbrev μ-loop : tie.MeasureT-loop
-μ-loop piece text₀ firsts₀ seconds₀ thirds₀ q₀ k₀ text firsts seconds thirds q k = length piece - k
+μ-loop piece text₀ steps₀ q₀ k₀ text steps q k = length piece - k
 
 loop-holds : tie.Need-loop-holds Inv-loop μ-loop
 unfolding fed
@@ -25,25 +25,24 @@ take-requires : tie.Need-take-requires Inv-loop μ-loop
 take-requires c κs = search ends
 
 add-k : tie.Need-add-k Inv-loop μ-loop
-add-k c = fits-more (c .before .before .before .before .before .before .before .before .before .before .before .before .before .before .before .loop .inv) (c .before .before .before .before .before .before .before .before .before .before .before .before .before .before .loop-test .taken)
+add-k c =
+    let turn = c .before .before .before .before .before .before .before in
+    fits-more (turn .before .loop .inv) (turn .loop-test .taken)
 
 loop-less : tie.Need-loop-less Inv-loop μ-loop
 loop-less c = search ends
 
 loop-again : tie.Need-loop-again Inv-loop μ-loop
-loop-again c = feeding-step (c .before .before .before .before .before .before .before .before .before .before .before .before .before .before .before .loop .inv) (c .before .before .before .before .before .before .before .before .before .before .before .before .before .before .loop-test .taken) refl (c .before .before .before .before .before .before .before .before .take .ensures)
+loop-again c =
+    let taken = c .before .before .before in
+    let turn = taken .before .before .before .before in
+    feeding-step (turn .before .loop .inv) (turn .loop-test .taken) refl (taken .take .ensures)
 
 same-length : tie.Need-same-length Inv-loop μ-loop
 same-length c = search ends
 
 same-length-2 : tie.Need-same-length-2 Inv-loop μ-loop
 same-length-2 c = search ends
-
-same-length-3 : tie.Need-same-length-3 Inv-loop μ-loop
-same-length-3 c = search ends
-
-same-length-4 : tie.Need-same-length-4 Inv-loop μ-loop
-same-length-4 c = search ends
 
 returns : tie.Need-returns Inv-loop μ-loop
 returns c = search ends
@@ -62,6 +61,4 @@ feed-spec =
     loop-again
     same-length
     same-length-2
-    same-length-3
-    same-length-4
     returns)

@@ -34,12 +34,6 @@ end-line-requires c κs = search ends
 same-length-2 : tie.Need-same-length-2
 same-length-2 c = search ends
 
-same-length-3 : tie.Need-same-length-3
-same-length-3 c = search ends
-
-same-length-4 : tie.Need-same-length-4
-same-length-4 c = search ends
-
 returns-4 : tie.Need-returns-4
 returns-4 c = search ends
 
@@ -57,6 +51,4 @@ take-spec =
     returns-3
     end-line-requires
     same-length-2
-    same-length-3
-    same-length-4
     returns-4)

@@ -16,12 +16,6 @@ same-length c = search mine
 same-length-2 : tie.Need-same-length-2
 same-length-2 c = search mine
 
-same-length-3 : tie.Need-same-length-3
-same-length-3 c = search mine
-
-same-length-4 : tie.Need-same-length-4
-same-length-4 c = search mine
-
 returns : tie.Need-returns
 returns c = search mine
 
@@ -33,6 +27,4 @@ answer-spec =
     reply-requires
     same-length
     same-length-2
-    same-length-3
-    same-length-4
     returns)

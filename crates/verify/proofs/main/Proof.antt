@@ -10,12 +10,6 @@ slice-aggregate-run c = search mine
 slice-aggregate-run-2 : tie.Need-slice-aggregate-run-2
 slice-aggregate-run-2 c = search mine
 
-slice-aggregate-run-3 : tie.Need-slice-aggregate-run-3
-slice-aggregate-run-3 c = search mine
-
-slice-aggregate-run-4 : tie.Need-slice-aggregate-run-4
-slice-aggregate-run-4 c = search mine
-
 run-requires : tie.Need-run-requires
 run-requires c κs = search mine
 
@@ -28,7 +22,5 @@ main-spec =
     (tie.spec
     slice-aggregate-run
     slice-aggregate-run-2
-    slice-aggregate-run-3
-    slice-aggregate-run-4
     run-requires
     returns)

@@ -6,10 +6,10 @@ use Rattle.verify.proofs.take_all.Statement.{statement}
 use Rattle.verify.proofs.take_all.Tie as tie
 
 abbrev Inv-loop : tie.InvT-loop
-Inv-loop text₀ firsts₀ seconds₀ thirds₀ p₀ turn₀ turns₀ text firsts seconds thirds p turn turns = Going (memory fresh text₀ firsts₀ seconds₀ thirds₀) p text firsts seconds thirds turn turns
+Inv-loop text₀ steps₀ p₀ turn₀ turns₀ text steps p turn turns = Going (memory fresh text₀ steps₀) p text steps turn turns
 
 abbrev μ-loop : tie.MeasureT-loop
-μ-loop text₀ firsts₀ seconds₀ thirds₀ p₀ turn₀ turns₀ text firsts seconds thirds p turn turns = turns
+μ-loop text₀ steps₀ p₀ turn₀ turns₀ text steps p turn turns = turns
 
 start-requires : tie.Need-start-requires Inv-loop μ-loop
 start-requires c κs = search mine
@@ -35,12 +35,6 @@ same-length c = search mine
 same-length-2 : tie.Need-same-length-2 Inv-loop μ-loop
 same-length-2 c = search mine
 
-same-length-3 : tie.Need-same-length-3 Inv-loop μ-loop
-same-length-3 c = search mine
-
-same-length-4 : tie.Need-same-length-4 Inv-loop μ-loop
-same-length-4 c = search mine
-
 returns : tie.Need-returns Inv-loop μ-loop
 returns c = search mine
 
@@ -58,6 +52,4 @@ take-all-spec =
     loop-again
     same-length
     same-length-2
-    same-length-3
-    same-length-4
     returns)

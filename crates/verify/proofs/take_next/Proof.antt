@@ -21,7 +21,9 @@ slice-aggregate-take-in : tie.Need-slice-aggregate-take-in
 slice-aggregate-take-in c = search mine
 
 take-in-requires : tie.Need-take-in-requires
-take-in-requires c κs = takes-read _ _ _ (c .before .before .before .before .before .before .before .before .take-piece .ensures) (c .before .before .before .before .before .before .got .given .1)
+take-in-requires c κs =
+    let got = c .before .before .before .before in
+    takes-read _ _ _ (got .before .before .take-piece .ensures) (got .got .given .1)
 
 enum-told : tie.Need-enum-told
 enum-told c = search mine
@@ -31,12 +33,6 @@ same-length c = search mine
 
 same-length-2 : tie.Need-same-length-2
 same-length-2 c = search mine
-
-same-length-3 : tie.Need-same-length-3
-same-length-3 c = search mine
-
-same-length-4 : tie.Need-same-length-4
-same-length-4 c = search mine
 
 returns : tie.Need-returns
 returns c = search mine
@@ -57,7 +53,5 @@ take-next-spec =
     enum-told
     same-length
     same-length-2
-    same-length-3
-    same-length-4
     returns
     returns-2)

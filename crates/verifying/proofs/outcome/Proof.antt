@@ -7,8 +7,8 @@ use Rattle.verifying.proofs.outcome.Tie as tie
 front-requires : tie.Need-front-requires
 front-requires c κs = search mine
 
-words-requires : tie.Need-words-requires
-words-requires c κs = search mine
+first-steps-requires : tie.Need-first-steps-requires
+first-steps-requires c κs = search mine
 
 judge-requires : tie.Need-judge-requires
 judge-requires c κs = search mine
@@ -17,4 +17,4 @@ returns : tie.Need-returns
 returns c = search mine
 
 pub outcome-spec : {M : Type 1} → statement M
-outcome-spec = tie.close (tie.spec front-requires words-requires judge-requires returns)
+outcome-spec = tie.close (tie.spec front-requires first-steps-requires judge-requires returns)

@@ -4,26 +4,26 @@ use Rattle.intake.proofs.Ways.{mine}
 use Rattle.intake.proofs.bytes.byte.Statement.{statement}
 use Rattle.intake.proofs.bytes.byte.Tie as tie
 
-mul-wide : tie.Need-mul-wide
-mul-wide c = search mine
+mul-u64-of-u8 : tie.Need-mul-u64-of-u8
+mul-u64-of-u8 c = search mine
 
-element-copy-out-wide : tie.Need-element-copy-out-wide
-element-copy-out-wide c = search mine
+element-copy-out-u64-of-u8 : tie.Need-element-copy-out-u64-of-u8
+element-copy-out-u64-of-u8 c = search mine
 
-wide-requires : tie.Need-wide-requires
-wide-requires c κs = search mine
+u64-of-u8-requires : tie.Need-u64-of-u8-requires
+u64-of-u8-requires c κs = search mine
 
-mul-wide-2 : tie.Need-mul-wide-2
-mul-wide-2 c = search mine
+mul-u64-of-u8-2 : tie.Need-mul-u64-of-u8-2
+mul-u64-of-u8-2 c = search mine
 
-add-wide : tie.Need-add-wide
-add-wide c = search mine
+add-u64-of-u8 : tie.Need-add-u64-of-u8
+add-u64-of-u8 c = search mine
 
-element-copy-out-wide-2 : tie.Need-element-copy-out-wide-2
-element-copy-out-wide-2 c = search mine
+element-copy-out-u64-of-u8-2 : tie.Need-element-copy-out-u64-of-u8-2
+element-copy-out-u64-of-u8-2 c = search mine
 
-wide-requires-2 : tie.Need-wide-requires-2
-wide-requires-2 c κs = search mine
+u64-of-u8-requires-2 : tie.Need-u64-of-u8-requires-2
+u64-of-u8-requires-2 c κs = search mine
 
 mul-result : tie.Need-mul-result
 mul-result c = search mine
@@ -32,19 +32,19 @@ add-result : tie.Need-add-result
 add-result c = search mine
 
 returns : tie.Need-returns
-returns c = (search mine, search mine)
+returns c = search mine
 
 pub byte-spec : {M : Type 1} → statement M
 byte-spec =
     tie.close
     (tie.spec
-    mul-wide
-    element-copy-out-wide
-    wide-requires
-    mul-wide-2
-    add-wide
-    element-copy-out-wide-2
-    wide-requires-2
+    mul-u64-of-u8
+    element-copy-out-u64-of-u8
+    u64-of-u8-requires
+    mul-u64-of-u8-2
+    add-u64-of-u8
+    element-copy-out-u64-of-u8-2
+    u64-of-u8-requires-2
     mul-result
     add-result
     returns)
