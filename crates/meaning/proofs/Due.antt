@@ -145,10 +145,10 @@ module _ (differs : ℕ → ℕ → Bool) (rows : List Row) (rep : ℕ → ℕ) 
       let x : ℕ = w .1 in
       rw (w .2) (bool-same (dead differs rows rep offset k (c ++ (x ∷ []))) (deadNow (c ++ (x ∷ []))) (next-now c x (w .3)) (now-dead (c ++ (x ∷ []))))
 
-  pub due-search : (narrow : List ℕ → Box → Box) (n : ℕ) (box : Box) → search (dead differs rows rep offset k) narrow n [] box ≡ search deadNow narrow n [] box
-  due-search narrow n box =
-      search-same (dead differs rows rep offset k) deadNow narrow Passed passed-same (λ chosen r e x. inr (chosen, x, refl, e)) n [] box (inl refl)
+  pub due-search : (prune : List ℕ → Box → Box) (n : ℕ) (box : Box) → search (dead differs rows rep offset k) prune n [] box ≡ search deadNow prune n [] box
+  due-search prune n box =
+      search-same (dead differs rows rep offset k) deadNow prune Passed passed-same (λ chosen r e x. inr (chosen, x, refl, e)) n [] box (inl refl)
 
-  pub due-first : (narrow : List ℕ → Box → Box) → Prunes (Sought differs rows rep offset k) (starts rows rep) narrow
-      → search deadNow narrow (variables (k .patterns)) [] (startBox rows rep k) ≡ firstBy differs rows rep offset k
-  due-first narrow p = sym (due-search narrow (variables ps) (startBox rows rep k)) ∙ pruned-first differs rows rep offset k narrow p
+  pub due-first : (prune : List ℕ → Box → Box) → Prunes (Sought differs rows rep offset k) (starts rows rep) prune
+      → search deadNow prune (variables (k .patterns)) [] (startBox rows rep k) ≡ firstBy differs rows rep offset k
+  due-first prune p = sym (due-search prune (variables ps) (startBox rows rep k)) ∙ pruned-first differs rows rep offset k prune p

@@ -25,7 +25,7 @@ use Rattle.meaning.proofs.Model.{Closed}
 use Rattle.meaning.proofs.Order.{Covers, covers-first, covers-trans, keeps-covers, same-first, first-one}
 use Rattle.meaning.proofs.Box.{mem-below, Box, AllIn}
 use Rattle.meaning.proofs.Search.{Prunes, search}
-use Rattle.meaning.proofs.Narrow.{KeepsAll, keeps-all-covers, keeps-all-part, prunes-same}
+use Rattle.meaning.proofs.Prunings.{KeepsAll, keeps-all-covers, keeps-all-part, prunes-same}
 use Rattle.meaning.proofs.From.{AtOrAfter}
 use Rattle.meaning.proofs.Swap.{Lower, breach-low, low-upto}
 use Rattle.meaning.proofs.Seek.{seek-first, starts, starts-rising, lowest-below, lowest-has}
@@ -96,21 +96,21 @@ module _ (c : Context) (k : Clause) (rep : ℕ → ℕ) (closed : Closed (c .row
         covers-first (covers-trans low-covers (keeps-covers low-sought)) (firstBy differs (c .rows) rep offset k)
         (seek-first (breaks differs (c .rows) rep offset k) (starts (c .rows) rep) (starts-rising (c .rows) rep) (variables (k .patterns)))
 
-    pub search-breach : (narrow : List ℕ → Box → Box) → Prunes (LowBreach c k rep) (starts (c .rows) rep) narrow
-        → Answers c k (search (dead differs (c .rows) rep offset k) narrow (variables (k .patterns)) [] (startBox (c .rows) rep k))
-    search-breach narrow p =
-        subst (Answers c k) (sym (pruned-first differs (c .rows) rep offset k narrow (prunes-same (Sought differs (c .rows) rep offset k) low-sought p))) first-breach
+    pub search-breach : (prune : List ℕ → Box → Box) → Prunes (LowBreach c k rep) (starts (c .rows) rep) prune
+        → Answers c k (search (dead differs (c .rows) rep offset k) prune (variables (k .patterns)) [] (startBox (c .rows) rep k))
+    search-breach prune p =
+        subst (Answers c k) (sym (pruned-first differs (c .rows) rep offset k prune (prunes-same (Sought differs (c .rows) rep offset k) low-sought p))) first-breach
 
-    module _ (narrow : List ℕ → Box → Box) (from : List ℕ) (whole : length from ≡ variables (k .patterns)) where
+    module _ (prune : List ℕ → Box → Box) (from : List ℕ) (whole : length from ≡ variables (k .patterns)) where
       low-from : (a : List ℕ) → AtOrAfter (LowBreach c k rep) from a ↔ AtOrAfter (Sought differs (c .rows) rep offset k) from a
       low-from a = (λ w. (low-sought a .0 (w .0), w .1), λ w. (low-sought a .1 (w .0), w .1))
 
-      pub breach-from : Prunes (AtOrAfter (LowBreach c k rep) from) (starts (c .rows) rep) narrow
-          → First (AtOrAfter (LowBreach c k rep) from) (searchFrom differs (c .rows) rep offset k narrow from)
+      pub breach-from : Prunes (AtOrAfter (LowBreach c k rep) from) (starts (c .rows) rep) prune
+          → First (AtOrAfter (LowBreach c k rep) from) (searchFrom differs (c .rows) rep offset k prune from)
       breach-from p =
-          same-first low-from (searchFrom differs (c .rows) rep offset k narrow from)
-          (first-from differs (c .rows) rep offset k narrow from whole (prunes-same (AtOrAfter (Sought differs (c .rows) rep offset k) from) low-from p))
+          same-first low-from (searchFrom differs (c .rows) rep offset k prune from)
+          (first-from differs (c .rows) rep offset k prune from whole (prunes-same (AtOrAfter (Sought differs (c .rows) rep offset k) from) low-from p))
 
-      pub breach-from-all : KeepsAll (LowBreach c k rep) (starts (c .rows) rep) narrow
-          → First (AtOrAfter (LowBreach c k rep) from) (searchFrom differs (c .rows) rep offset k narrow from)
+      pub breach-from-all : KeepsAll (LowBreach c k rep) (starts (c .rows) rep) prune
+          → First (AtOrAfter (LowBreach c k rep) from) (searchFrom differs (c .rows) rep offset k prune from)
       breach-from-all p = breach-from (keeps-all-covers (keeps-all-part (AtOrAfter (LowBreach c k rep) from) (λ a w. w .0) p))

@@ -16,7 +16,7 @@ use Rattle.meaning.specs.Pruning.{anyOf, touch, touchesFrom, touches, no
 use Rattle.meaning.proofs.Logic.{and-true-left, and-true-right, or-none}
 use Rattle.meaning.proofs.Box.{Mem, AllIn}
 use Rattle.meaning.proofs.Search.{Prunes}
-use Rattle.meaning.proofs.Narrow.{takeFirst, free-prunes}
+use Rattle.meaning.proofs.Prunings.{takeFirst, free-prunes}
 use Rattle.meaning.proofs.Seek.{starts}
 use Rattle.meaning.proofs.Finds.{LowBreach, starts-below}
 

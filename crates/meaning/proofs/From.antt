@@ -20,7 +20,7 @@ use Rattle.meaning.proofs.Lists.{sameList-true, sameList-self}
 use Rattle.meaning.proofs.Order.{Upto, before-cases, before-snoc}
 use Rattle.meaning.proofs.Box.{Box, Mem, Rising, Good, Open, AllIn, OfRows, of-rows-next}
 use Rattle.meaning.proofs.Search.{search, Cuts, Prunes, Invariant, invariant-first}
-use Rattle.meaning.proofs.Narrow.{KeepsAll, keeps-all-covers, keeps-all-part, prunes-then, sift, siftBox, siftBox-good, sift-part, Kept, sift-keeps-all}
+use Rattle.meaning.proofs.Prunings.{KeepsAll, keeps-all-covers, keeps-all-part, prunes-then, sift, siftBox, siftBox-good, sift-part, Kept, sift-keeps-all}
 
 abbrev pub AtOrAfter : (List ℕ → Type 0) → List ℕ → List ℕ → Type 0
 AtOrAfter So from a = So a × Upto from a
@@ -75,14 +75,14 @@ from-next from chosen x n k w = ⊎-elim n (λ h. go (h .0) (h .1)) (before-snoc
         let l : leb (getD from (length chosen) 0) x ≡ true = rw (s, eq-eqb (length chosen) (length chosen) refl) at k in
         omega (arith, leb-true (getD from (length chosen) 0) x l)
 
-module _ (So : List ℕ → Type 0) (total : ℕ) (rows : List ℕ) (dead : List ℕ → Bool) (narrow : List ℕ → Box → Box) (from : List ℕ) (whole : length from ≡ total) where
+module _ (So : List ℕ → Type 0) (total : ℕ) (rows : List ℕ) (dead : List ℕ → Bool) (prune : List ℕ → Box → Box) (from : List ℕ) (whole : length from ≡ total) where
   abbrev pruned : List ℕ → Box → Box
-  pruned chosen box = notBefore from chosen (narrow chosen box)
+  pruned chosen box = notBefore from chosen (prune chosen box)
 
   abbrev Reached : List ℕ → Box → Type 0
   Reached chosen box = OfRows rows chosen box × (Before chosen from → ⊥)
 
-  from-invariant : Cuts So total rows dead → Prunes (AtOrAfter So from) rows narrow → Invariant (AtOrAfter So from) total Reached dead pruned
+  from-invariant : Cuts So total rows dead → Prunes (AtOrAfter So from) rows prune → Invariant (AtOrAfter So from) total Reached dead pruned
   unfolding notBefore siftBox
   from-invariant c p =
       let q : Prunes (AtOrAfter So from) rows pruned = prunes-then p (keeps-all-covers (from-keeps-all So rows from)) in
@@ -91,7 +91,7 @@ module _ (So : List ℕ → Type 0) (total : ℕ) (rows : List ℕ) (dead : List
         leaf = λ a h w e. (c .leaf a h (w .0 .0) e, ⊎-elim (λ s. inl s) (⊎-elim (λ b. inr b) (λ b. absurd (w .1 b))) (before-cases from a (whole ∙ sym h)));
         covers = λ chosen box w. q .covers chosen box (w .0);
         long = q .long;
-        next = λ chosen box w l new e. next′ chosen (narrow chosen box) (p .good chosen box (w .0 .1)) (w .0 .0) (w .1) l new e;
+        next = λ chosen box w l new e. next′ chosen (prune chosen box) (p .good chosen box (w .0 .1)) (w .0 .0) (w .1) l new e;
       }
     where
       next′ : (chosen : List ℕ) (box : Box) → Good rows box → AllIn rows chosen → (Before chosen from → ⊥) → (l : List ℕ) (new : Box)
@@ -103,11 +103,11 @@ module _ (So : List ℕ → Type 0) (total : ℕ) (rows : List ℕ) (dead : List
           (h .0 .0, λ x k. (of-rows-next rows chosen l new i h x k, from-next from chosen x n (sift-part (notEarlier from chosen (length chosen)) m x (subst (Mem x) (sym f) k) .1)))
 
   -- the search law, from an assignment on
-  pub search-from : Cuts So total rows dead → Prunes (AtOrAfter So from) rows narrow → (box : Box) → length box ≡ total → Good rows box
-      → First (Open (AtOrAfter So from) [] box) (search dead (λ chosen box. notBefore from chosen (narrow chosen box)) total [] box)
+  pub search-from : Cuts So total rows dead → Prunes (AtOrAfter So from) rows prune → (box : Box) → length box ≡ total → Good rows box
+      → First (Open (AtOrAfter So from) [] box) (search dead (λ chosen box. notBefore from chosen (prune chosen box)) total [] box)
   search-from c p box h g = invariant-first (AtOrAfter So from) (from-invariant c p) total [] box (omega arith) h ((tt, g), λ b. b)
 
   -- a pruning that keeps every member serves every assignment to start from
-  pub search-all-from : Cuts So total rows dead → KeepsAll So rows narrow → (box : Box) → length box ≡ total → Good rows box
-      → First (Open (AtOrAfter So from) [] box) (search dead (λ chosen box. notBefore from chosen (narrow chosen box)) total [] box)
+  pub search-all-from : Cuts So total rows dead → KeepsAll So rows prune → (box : Box) → length box ≡ total → Good rows box
+      → First (Open (AtOrAfter So from) [] box) (search dead (λ chosen box. notBefore from chosen (prune chosen box)) total [] box)
   search-all-from c k = search-from c (keeps-all-covers (keeps-all-part (AtOrAfter So from) (λ a s. s .0) k))

@@ -14,7 +14,7 @@ pub mod Apartness
 pub mod Order
 pub mod Box
 pub mod Search
-pub mod Narrow
+pub mod Prunings
 pub mod From
 pub mod Swap
 pub mod Seek

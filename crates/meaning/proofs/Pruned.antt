@@ -26,7 +26,7 @@ use Rattle.meaning.proofs.Logic.{false-true, and-both, and-none, and-tr
 use Rattle.meaning.proofs.Order.{first-one, same-first}
 use Rattle.meaning.proofs.Box.{Box, AllIn, Open, Good, good-replicate, open-replicate}
 use Rattle.meaning.proofs.Search.{search, Cuts, Prunes, search-first}
-use Rattle.meaning.proofs.Narrow.{KeepsAll}
+use Rattle.meaning.proofs.Prunings.{KeepsAll}
 use Rattle.meaning.proofs.From.{AtOrAfter, notBefore, search-from, search-all-from}
 use Rattle.meaning.proofs.Seek.{seek-first, starts, starts-rising}
 use Rattle.meaning.proofs.Prefix.{levels-most, ready, holds-prefix}
@@ -113,28 +113,28 @@ module _ (differs : ℕ → ℕ → Bool) (rows : List Row) (rep : ℕ → ℕ) 
   start-good : Good (starts rows rep) (startBox rows rep k)
   start-good = good-replicate (variables ps) (starts rows rep) (starts-rising rows rep)
 
-  pub pruned-first : (narrow : List ℕ → Box → Box) → Prunes Sought (starts rows rep) narrow
-      → search dead narrow (variables (k .patterns)) [] (startBox rows rep k) ≡ firstBy differs rows rep offset k
+  pub pruned-first : (prune : List ℕ → Box → Box) → Prunes Sought (starts rows rep) prune
+      → search dead prune (variables (k .patterns)) [] (startBox rows rep k) ≡ firstBy differs rows rep offset k
   unfolding firstBy
-  pruned-first narrow p =
-      first-one Sought (variables ps) (λ a s. s .0) (search dead narrow (variables ps) [] (startBox rows rep k)) (firstBy differs rows rep offset k)
-      (start-first Sought (λ a s. s) (search dead narrow (variables ps) [] (startBox rows rep k))
-      (search-first Sought (variables ps) (starts rows rep) dead narrow dead-cuts p (startBox rows rep k) start-long start-good))
+  pruned-first prune p =
+      first-one Sought (variables ps) (λ a s. s .0) (search dead prune (variables ps) [] (startBox rows rep k)) (firstBy differs rows rep offset k)
+      (start-first Sought (λ a s. s) (search dead prune (variables ps) [] (startBox rows rep k))
+      (search-first Sought (variables ps) (starts rows rep) dead prune dead-cuts p (startBox rows rep k) start-long start-good))
       (seek-first (breaks differs rows rep offset k) (starts rows rep) (starts-rising rows rep) (variables ps))
 
   -- the search that leaves out what comes before an assignment
   unfoldable pub searchFrom : (List ℕ → Box → Box) → List ℕ → Found
-  searchFrom narrow from = search dead (λ chosen box. notBefore from chosen (narrow chosen box)) (variables (k .patterns)) [] (startBox rows rep k)
+  searchFrom prune from = search dead (λ chosen box. notBefore from chosen (prune chosen box)) (variables (k .patterns)) [] (startBox rows rep k)
 
-  module _ (narrow : List ℕ → Box → Box) (from : List ℕ) (whole : length from ≡ variables (k .patterns)) where
-    pub first-from : Prunes (AtOrAfter Sought from) (starts rows rep) narrow → First (AtOrAfter Sought from) (searchFrom narrow from)
+  module _ (prune : List ℕ → Box → Box) (from : List ℕ) (whole : length from ≡ variables (k .patterns)) where
+    pub first-from : Prunes (AtOrAfter Sought from) (starts rows rep) prune → First (AtOrAfter Sought from) (searchFrom prune from)
     unfolding searchFrom
     first-from p =
-        start-first (AtOrAfter Sought from) (λ a s. s .0) (searchFrom narrow from)
-        (search-from Sought (variables ps) (starts rows rep) dead narrow from whole dead-cuts p (startBox rows rep k) start-long start-good)
+        start-first (AtOrAfter Sought from) (λ a s. s .0) (searchFrom prune from)
+        (search-from Sought (variables ps) (starts rows rep) dead prune from whole dead-cuts p (startBox rows rep k) start-long start-good)
 
-    pub first-from-all : KeepsAll Sought (starts rows rep) narrow → First (AtOrAfter Sought from) (searchFrom narrow from)
+    pub first-from-all : KeepsAll Sought (starts rows rep) prune → First (AtOrAfter Sought from) (searchFrom prune from)
     unfolding searchFrom
     first-from-all p =
-        start-first (AtOrAfter Sought from) (λ a s. s .0) (searchFrom narrow from)
-        (search-all-from Sought (variables ps) (starts rows rep) dead narrow from whole dead-cuts p (startBox rows rep k) start-long start-good)
+        start-first (AtOrAfter Sought from) (λ a s. s .0) (searchFrom prune from)
+        (search-all-from Sought (variables ps) (starts rows rep) dead prune from whole dead-cuts p (startBox rows rep k) start-long start-good)

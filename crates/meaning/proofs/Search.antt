@@ -27,8 +27,8 @@ tryBox next chosen (l ∷ box) = tryAll (λ c. next c box) chosen l
 
 -- n variables are open; a choice that is dead is cut
 unfoldable pub search : (List ℕ → Bool) → (List ℕ → Box → Box) → ℕ → List ℕ → Box → Found
-search dead narrow zero chosen box = elim (dead chosen) [ true ↦ nothing | false ↦ found chosen ]
-search dead narrow (suc n) chosen box = elim (dead chosen) [ true ↦ nothing | false ↦ tryBox (search dead narrow n) chosen (narrow chosen box) ]
+search dead prune zero chosen box = elim (dead chosen) [ true ↦ nothing | false ↦ found chosen ]
+search dead prune (suc n) chosen box = elim (dead chosen) [ true ↦ nothing | false ↦ tryBox (search dead prune n) chosen (prune chosen box) ]
 
 -- ---- the first member inside a box
 
@@ -49,26 +49,26 @@ module _ (So : List ℕ → Type 0) where
 -- ---- the search, by an invariant of its choices
 
 -- Reached holds of each choice that the search comes to, and of the box that it then has
-pub record Invariant (So : List ℕ → Type 0) (total : ℕ) (Reached : List ℕ → Box → Type 0) (dead : List ℕ → Bool) (narrow : List ℕ → Box → Box) : Type 0 where
+pub record Invariant (So : List ℕ → Type 0) (total : ℕ) (Reached : List ℕ → Box → Type 0) (dead : List ℕ → Bool) (prune : List ℕ → Box → Box) : Type 0 where
   -- a choice that is dead begins no member
   pub cut : (chosen : List ℕ) → dead chosen ≡ true → (rest : List ℕ) → So (chosen ++ rest) → ⊥
   -- a whole choice that is not dead is a member
   pub leaf : (a : List ℕ) → length a ≡ total → Reached a [] → dead a ≡ false → So a
   -- for each member inside the box the new box has one that is no later
-  pub covers : (chosen : List ℕ) (box : Box) → Reached chosen box → Covers (Open So chosen box) (Open So chosen (narrow chosen box))
-  pub long : (chosen : List ℕ) (box : Box) → length (narrow chosen box) ≡ length box
+  pub covers : (chosen : List ℕ) (box : Box) → Reached chosen box → Covers (Open So chosen box) (Open So chosen (prune chosen box))
+  pub long : (chosen : List ℕ) (box : Box) → length (prune chosen box) ≡ length box
   -- the places of the next variable rise, and each may be chosen
-  pub next : (chosen : List ℕ) (box : Box) → Reached chosen box → (l : List ℕ) (new : Box) → narrow chosen box ≡ l ∷ new
+  pub next : (chosen : List ℕ) (box : Box) → Reached chosen box → (l : List ℕ) (new : Box) → prune chosen box ≡ l ∷ new
       → Rising l × ((x : ℕ) → Mem x l → Reached (chosen ++ (x ∷ [])) new)
 
-module _ (So : List ℕ → Type 0) {total : ℕ} {Reached : List ℕ → Box → Type 0} {dead : List ℕ → Bool} {narrow : List ℕ → Box → Box} (p : Invariant So total Reached dead narrow) where
+module _ (So : List ℕ → Type 0) {total : ℕ} {Reached : List ℕ → Box → Type 0} {dead : List ℕ → Bool} {prune : List ℕ → Box → Box} (p : Invariant So total Reached dead prune) where
   -- the search gives the first member inside its box
   pub invariant-first : (n : ℕ) (chosen : List ℕ) (box : Box) → length chosen + n ≡ total → length box ≡ n → Reached chosen box
-      → First (Open So chosen box) (search dead narrow n chosen box)
+      → First (Open So chosen box) (search dead prune n chosen box)
   unfolding search tryBox
   invariant-first zero chosen [] t h i = go (dead chosen) refl
     where
-      go : (d : Bool) → dead chosen ≡ d → First (Open So chosen []) (search dead narrow zero chosen [])
+      go : (d : Bool) → dead chosen ≡ d → First (Open So chosen []) (search dead prune zero chosen [])
       go true e = rw (e, search) (λ a o. p .cut chosen e (o .rest) (rw (o .whole) at (o .so)))
       go false e =
           rw (e, search) (
@@ -79,16 +79,16 @@ module _ (So : List ℕ → Type 0) {total : ℕ} {Reached : List ℕ → Box �
   invariant-first (suc n) chosen box t h i = go (dead chosen) refl (invariant-first n)
     where
       go : (d : Bool) → dead chosen ≡ d
-          → ((c : List ℕ) (x : Box) → length c + n ≡ total → length x ≡ n → Reached c x → First (Open So c x) (search dead narrow n c x))
-          → First (Open So chosen box) (search dead narrow (suc n) chosen box)
+          → ((c : List ℕ) (x : Box) → length c + n ≡ total → length x ≡ n → Reached c x → First (Open So c x) (search dead prune n c x))
+          → First (Open So chosen box) (search dead prune (suc n) chosen box)
       go true e ih = rw (e, search) (λ a o. p .cut chosen e (o .rest) (rw (o .whole) at (o .so)))
       go false e ih =
-          rw (e, search) (covers-first (p .covers chosen box i) (tryBox (search dead narrow n) chosen (narrow chosen box)) (inner (narrow chosen box) refl (p .long chosen box ∙ h)))
+          rw (e, search) (covers-first (p .covers chosen box i) (tryBox (search dead prune n) chosen (prune chosen box)) (inner (prune chosen box) refl (p .long chosen box ∙ h)))
         where
-          inner : (new : Box) → narrow chosen box ≡ new → length new ≡ suc n → First (Open So chosen new) (tryBox (search dead narrow n) chosen new)
+          inner : (new : Box) → prune chosen box ≡ new → length new ≡ suc n → First (Open So chosen new) (tryBox (search dead prune n) chosen new)
           inner [] f ln = absurd (omega arith)
           inner (l ∷ new) f ln =
-              tryAll-first So (λ c. search dead narrow n c new) chosen l new (p .next chosen box i l new f .0)
+              tryAll-first So (λ c. search dead prune n c new) chosen l new (p .next chosen box i l new f .0)
               (λ x m. ih (chosen ++ (x ∷ [])) new (omega (arith, length-append chosen (x ∷ []))) (omega arith) (p .next chosen box i l new f .1 x m))
 
 -- ---- two cuts that agree on the choices that a search comes to
@@ -99,27 +99,27 @@ unfolding tryAll
 tryAll-same next other chosen [] f = refl
 tryAll-same next other chosen (x ∷ l) f = ap₂ orElse (f x) (tryAll-same next other chosen l f)
 
-module _ (dead late : List ℕ → Bool) (narrow : List ℕ → Box → Box) (Reached : List ℕ → Type 0)
+module _ (dead late : List ℕ → Bool) (prune : List ℕ → Box → Box) (Reached : List ℕ → Type 0)
     (same : (chosen : List ℕ) → Reached chosen → dead chosen ≡ late chosen)
     (next : (chosen : List ℕ) → Reached chosen → dead chosen ≡ false → (x : ℕ) → Reached (chosen ++ (x ∷ []))) where
   tryBox-same : (n : ℕ) (chosen : List ℕ) (box : Box)
-      → ((x : ℕ) (new : Box) → search dead narrow n (chosen ++ (x ∷ [])) new ≡ search late narrow n (chosen ++ (x ∷ [])) new)
-      → tryBox (search dead narrow n) chosen box ≡ tryBox (search late narrow n) chosen box
+      → ((x : ℕ) (new : Box) → search dead prune n (chosen ++ (x ∷ [])) new ≡ search late prune n (chosen ++ (x ∷ [])) new)
+      → tryBox (search dead prune n) chosen box ≡ tryBox (search late prune n) chosen box
   unfolding tryBox
   tryBox-same n chosen [] f = refl
-  tryBox-same n chosen (l ∷ box) f = tryAll-same (λ c. search dead narrow n c box) (λ c. search late narrow n c box) chosen l (λ x. f x box)
+  tryBox-same n chosen (l ∷ box) f = tryAll-same (λ c. search dead prune n c box) (λ c. search late prune n c box) chosen l (λ x. f x box)
 
-  pub search-same : (n : ℕ) (chosen : List ℕ) (box : Box) → Reached chosen → search dead narrow n chosen box ≡ search late narrow n chosen box
+  pub search-same : (n : ℕ) (chosen : List ℕ) (box : Box) → Reached chosen → search dead prune n chosen box ≡ search late prune n chosen box
   unfolding search
   search-same zero chosen box r = rw (same chosen r, search) refl
   search-same (suc n) chosen box r = go (dead chosen) refl (λ c x. search-same n c x)
     where
-      go : (b : Bool) → dead chosen ≡ b → ((c : List ℕ) (x : Box) → Reached c → search dead narrow n c x ≡ search late narrow n c x)
-          → search dead narrow (suc n) chosen box ≡ search late narrow (suc n) chosen box
+      go : (b : Bool) → dead chosen ≡ b → ((c : List ℕ) (x : Box) → Reached c → search dead prune n c x ≡ search late prune n c x)
+          → search dead prune (suc n) chosen box ≡ search late prune (suc n) chosen box
       go true e ih = let f : late chosen ≡ true = sym (same chosen r) ∙ e in rw (e, f, search) refl
       go false e ih =
           let f : late chosen ≡ false = sym (same chosen r) ∙ e in
-          rw (e, f, search) (tryBox-same n chosen (narrow chosen box) (λ x new. ih (chosen ++ (x ∷ [])) new (next chosen r e x)))
+          rw (e, f, search) (tryBox-same n chosen (prune chosen box) (λ x new. ih (chosen ++ (x ∷ [])) new (next chosen r e x)))
 
 -- ---- the search within some rows
 
@@ -131,13 +131,13 @@ pub record Cuts (So : List ℕ → Type 0) (total : ℕ) (rows : List ℕ) (dead
   pub leaf : (a : List ℕ) → length a ≡ total → AllIn rows a → dead a ≡ false → So a
 
 -- what a pruning promises: for each member inside the box the new box has one that is no later
-pub record Prunes (So : List ℕ → Type 0) (rows : List ℕ) (narrow : List ℕ → Box → Box) : Type 0 where
-  pub covers : (chosen : List ℕ) (box : Box) → OfRows rows chosen box → Covers (Open So chosen box) (Open So chosen (narrow chosen box))
-  pub good : (chosen : List ℕ) (box : Box) → Good rows box → Good rows (narrow chosen box)
-  pub long : (chosen : List ℕ) (box : Box) → length (narrow chosen box) ≡ length box
+pub record Prunes (So : List ℕ → Type 0) (rows : List ℕ) (prune : List ℕ → Box → Box) : Type 0 where
+  pub covers : (chosen : List ℕ) (box : Box) → OfRows rows chosen box → Covers (Open So chosen box) (Open So chosen (prune chosen box))
+  pub good : (chosen : List ℕ) (box : Box) → Good rows box → Good rows (prune chosen box)
+  pub long : (chosen : List ℕ) (box : Box) → length (prune chosen box) ≡ length box
 
-module _ (So : List ℕ → Type 0) (total : ℕ) (rows : List ℕ) (dead : List ℕ → Bool) (narrow : List ℕ → Box → Box) where
-  of-rows-invariant : Cuts So total rows dead → Prunes So rows narrow → Invariant So total (OfRows rows) dead narrow
+module _ (So : List ℕ → Type 0) (total : ℕ) (rows : List ℕ) (dead : List ℕ → Bool) (prune : List ℕ → Box → Box) where
+  of-rows-invariant : Cuts So total rows dead → Prunes So rows prune → Invariant So total (OfRows rows) dead prune
   of-rows-invariant c p =
       record {
         cut = c .cut;
@@ -150,6 +150,6 @@ module _ (So : List ℕ → Type 0) (total : ℕ) (rows : List ℕ) (dead : List
       }
 
   -- the search law
-  pub search-first : Cuts So total rows dead → Prunes So rows narrow → (box : Box) → length box ≡ total → Good rows box
-      → First (Open So [] box) (search dead narrow total [] box)
+  pub search-first : Cuts So total rows dead → Prunes So rows prune → (box : Box) → length box ≡ total → Good rows box
+      → First (Open So [] box) (search dead prune total [] box)
   search-first c p box h g = invariant-first So (of-rows-invariant c p) total [] box (omega arith) h (tt, g)

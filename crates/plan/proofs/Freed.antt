@@ -23,7 +23,7 @@ use Rattle.meaning.proofs.Logic.{and-true-left, and-true-right, and-both, or-no
 use Rattle.meaning.proofs.Box.{Mem, AllIn}
 use Rattle.meaning.proofs.Search.{search, Prunes}
 use Rattle.meaning.proofs.Seek.{starts, starts-rising, lowest-self, seek-first}
-use Rattle.meaning.proofs.Narrow.{takeFirst, free-prunes}
+use Rattle.meaning.proofs.Prunings.{takeFirst, free-prunes}
 use Rattle.meaning.proofs.Free.{untouched}
 use Rattle.meaning.proofs.Pruned.{startBox, Sought}
 use Rattle.meaning.proofs.Due.{deadNow, due-first}

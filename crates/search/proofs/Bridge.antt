@@ -24,7 +24,7 @@ use Rattle.meaning.specs.Pruning.{fails, due}
 use Rattle.meaning.proofs.Box.{Box, Mem}
 use Rattle.meaning.proofs.Levels.{level-variable, rows-at, number-done}
 use Rattle.meaning.proofs.Search.{tryBox, search}
-use Rattle.meaning.proofs.Narrow.{takeFirst}
+use Rattle.meaning.proofs.Prunings.{takeFirst}
 use Rattle.meaning.proofs.Prefix.{stages-next}
 use Rattle.meaning.proofs.Pruned.{startBox}
 use Rattle.meaning.proofs.Due.{deadNow}
@@ -161,7 +161,7 @@ zero-at (suc n) (suc p) = zero-at n p
 
 -- with so many variables, the pruning gives the next one its rows and leaves the others all
 abbrev pub Narrows : List ℕ → ℕ → (List ℕ → Box → Box) → (ℕ → List ℕ → List ℕ) → Type 0
-Narrows low total narrow rowsFor = (n k : ℕ) (a rest : List ℕ) → length a ≡ k → k + suc n ≡ total → narrow a (replicate (suc n) low) ≡ rowsFor k (a ++ rest) ∷ replicate n low
+Narrows low total prune rowsFor = (n k : ℕ) (a rest : List ℕ) → length a ≡ k → k + suc n ≡ total → prune a (replicate (suc n) low) ≡ rowsFor k (a ++ rest) ∷ replicate n low
 
 module _ (rows : List Row) (rep : ℕ → ℕ) (ps : List Pattern) (placed : AllPlaced 0 ps) (few : length ps ≤ 64)
     (ls order ends : List ℕ) (same : Alike ls (levels ps)) (order-is : Arranged (levels ps) order ends)
@@ -226,36 +226,36 @@ module _ (rows : List Row) (rep : ℕ → ℕ) (ps : List Pattern) (placed : All
   try-same next f a [] g = refl
   try-same next f a (x ∷ l) g = ap₂ orElse (g x) (try-same next f a l g)
 
-  module _ (narrow : List ℕ → Box → Box) (rowsFor : ℕ → List ℕ → List ℕ) (narrows : Narrows low (variables ps) narrow rowsFor) where
-    search-dead : (n : ℕ) (a : List ℕ) (box : Box) → now a ≡ true → search now narrow n a box ≡ nothing
+  module _ (prune : List ℕ → Box → Box) (rowsFor : ℕ → List ℕ → List ℕ) (narrows : Narrows low (variables ps) prune rowsFor) where
+    search-dead : (n : ℕ) (a : List ℕ) (box : Box) → now a ≡ true → search now prune n a box ≡ nothing
     unfolding search
     search-dead zero a box e = rw (e, search)
     search-dead (suc n) a box e = rw (e, search)
 
     enter-same : (n j : ℕ) (a rest v : List ℕ) → length a ≡ j → Alike (st j (a ++ rest) v) (stages rows rep 65536 ps a j .numbers)
-        → (now a ≡ false → search now narrow n a (replicate n low) ≡ huntOf st de rowsFor n j (a ++ rest) (st j (a ++ rest) v))
-        → search now narrow n a (replicate n low) ≡ enterOf st de (huntOf st de rowsFor n j) j (a ++ rest) v
+        → (now a ≡ false → search now prune n a (replicate n low) ≡ huntOf st de rowsFor n j (a ++ rest) (st j (a ++ rest) v))
+        → search now prune n a (replicate n low) ≡ enterOf st de (huntOf st de rowsFor n j) j (a ++ rest) v
     unfolding enterOf
     enter-same n j a rest v l f ih = go (now a) refl
       where
-        go : (b : Bool) → now a ≡ b → search now narrow n a (replicate n low) ≡ enterOf st de (huntOf st de rowsFor n j) j (a ++ rest) v
+        go : (b : Bool) → now a ≡ b → search now prune n a (replicate n low) ≡ enterOf st de (huntOf st de rowsFor n j) j (a ++ rest) v
         go true e = rw (dead-same j a (st j (a ++ rest) v) l f ∙ e, enterOf) (search-dead n a (replicate n low) e)
         go false e = rw (dead-same j a (st j (a ++ rest) v) l f ∙ e, enterOf) (ih e)
 
     search-next : (n k : ℕ) (a rest : List ℕ) → length a ≡ k → k + suc n ≡ variables ps → now a ≡ false
-        → search now narrow (suc n) a (replicate (suc n) low) ≡ tryAll (λ c. search now narrow n c (replicate n low)) a (rowsFor k (a ++ rest))
+        → search now prune (suc n) a (replicate (suc n) low) ≡ tryAll (λ c. search now prune n c (replicate n low)) a (rowsFor k (a ++ rest))
     unfolding search tryBox
-    search-next n k a rest l t d = rw (d, search) (ap (tryBox (search now narrow n) a) (narrows n k a rest l t))
+    search-next n k a rest l t d = rw (d, search) (ap (tryBox (search now prune n) a) (narrows n k a rest l t))
 
     -- where the choice so far is not dead
     hunt-same : (n k : ℕ) (a rest v : List ℕ) → k + n ≤ 4 → k + n ≡ variables ps → length a ≡ k → length rest ≡ 4 - k → length v ≡ 64 → Alike v (stages rows rep 65536 ps a k .numbers)
-        → now a ≡ false → search now narrow n a (replicate n low) ≡ huntOf st de rowsFor n k (a ++ rest) v
+        → now a ≡ false → search now prune n a (replicate n low) ≡ huntOf st de rowsFor n k (a ++ rest) v
     unfolding search huntOf attemptOf
     hunt-same zero k a rest v h t l lr lv f d = rw (d, search) (ap found (sym (take-at a rest k l)))
     hunt-same (suc n) k a [] v h t l lr lv f d = absurd (omega arith)
     hunt-same (suc n) k a (y ∷ rest) v h t l lr lv f d =
         search-next n k a (y ∷ rest) l t d
-        ∙ try-same (λ c. search now narrow n c (replicate n low)) (attemptOf st de (huntOf st de rowsFor n (suc k)) k (a ++ (y ∷ rest)) v) a (rowsFor k (a ++ (y ∷ rest)))
+        ∙ try-same (λ c. search now prune n c (replicate n low)) (attemptOf st de (huntOf st de rowsFor n (suc k)) k (a ++ (y ∷ rest)) v) a (rowsFor k (a ++ (y ∷ rest)))
         (one (λ x. hunt-same n (suc k) (a ++ (x ∷ [])) rest (st (suc k) ((a ++ (x ∷ [])) ++ rest) v) (omega arith) (omega arith) (long x) (omega arith)
         (stage-long (suc k) ((a ++ (x ∷ [])) ++ rest) v (omega arith) ∙ lv) (stage-more k a rest x v (omega arith) l lv f)))
       where
@@ -263,14 +263,14 @@ module _ (rows : List Row) (rep : ℕ → ℕ) (ps : List Pattern) (placed : All
         long x = omega (arith, length-append a (x ∷ []))
 
         one : ((x : ℕ) → now (a ++ (x ∷ [])) ≡ false
-            → search now narrow n (a ++ (x ∷ [])) (replicate n low) ≡ huntOf st de rowsFor n (suc k) ((a ++ (x ∷ [])) ++ rest) (st (suc k) ((a ++ (x ∷ [])) ++ rest) v))
-            → (x : ℕ) → search now narrow n (a ++ (x ∷ [])) (replicate n low) ≡ attemptOf st de (huntOf st de rowsFor n (suc k)) k (a ++ (y ∷ rest)) v x
+            → search now prune n (a ++ (x ∷ [])) (replicate n low) ≡ huntOf st de rowsFor n (suc k) ((a ++ (x ∷ [])) ++ rest) (st (suc k) ((a ++ (x ∷ [])) ++ rest) v))
+            → (x : ℕ) → search now prune n (a ++ (x ∷ [])) (replicate n low) ≡ attemptOf st de (huntOf st de rowsFor n (suc k)) k (a ++ (y ∷ rest)) v x
         one ih x =
             enter-same n (suc k) (a ++ (x ∷ [])) rest v (long x) (stage-more k a rest x v (omega arith) l lv f) (ih x)
             ∙ ap (λ (c : List ℕ). enterOf st de (huntOf st de rowsFor n (suc k)) (suc k) c v) (append-assoc a (x ∷ []) rest ∙ sym (set-at a y rest x k l))
 
     pub hunt-search : variables ps ≤ 4
-        → enterFrom st de rowsFor (variables ps) 0 (replicate 4 255) (replicate 64 0) ≡ search now narrow (variables ps) [] (startBox rows rep clause)
+        → enterFrom st de rowsFor (variables ps) 0 (replicate 4 255) (replicate 64 0) ≡ search now prune (variables ps) [] (startBox rows rep clause)
     unfolding enterFrom
     hunt-search h =
         sym (enter-same (variables ps) 0 [] (replicate 4 255) (replicate 64 0) refl stage-first

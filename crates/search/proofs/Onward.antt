@@ -21,7 +21,7 @@ use Rattle.meaning.specs.Values.{levels}
 use Rattle.meaning.specs.FirstBy.{lowest}
 use Rattle.meaning.proofs.Box.{Box}
 use Rattle.meaning.proofs.Search.{search}
-use Rattle.meaning.proofs.Narrow.{sift, siftBox, idle-keeps-all}
+use Rattle.meaning.proofs.Prunings.{sift, siftBox, idle-keeps-all}
 use Rattle.meaning.proofs.From.{notEarlier, notBefore}
 use Rattle.meaning.proofs.Pruned.{startBox, Sought, dead, searchFrom, first-from-all}
 use Rattle.meaning.proofs.Due.{due-search}

@@ -20,12 +20,12 @@ use Rattle.meaning.proofs.Search.{Prunes}
 -- ---- the two promises
 
 -- every member inside the box stays, and none comes in
-pub record KeepsAll (So : List ℕ → Type 0) (rows : List ℕ) (narrow : List ℕ → Box → Box) : Type 0 where
-  pub keeps : (chosen : List ℕ) (box : Box) → OfRows rows chosen box → (a : List ℕ) → Open So chosen box a ↔ Open So chosen (narrow chosen box) a
-  pub good : (chosen : List ℕ) (box : Box) → Good rows box → Good rows (narrow chosen box)
-  pub long : (chosen : List ℕ) (box : Box) → length (narrow chosen box) ≡ length box
+pub record KeepsAll (So : List ℕ → Type 0) (rows : List ℕ) (prune : List ℕ → Box → Box) : Type 0 where
+  pub keeps : (chosen : List ℕ) (box : Box) → OfRows rows chosen box → (a : List ℕ) → Open So chosen box a ↔ Open So chosen (prune chosen box) a
+  pub good : (chosen : List ℕ) (box : Box) → Good rows box → Good rows (prune chosen box)
+  pub long : (chosen : List ℕ) (box : Box) → length (prune chosen box) ≡ length box
 
-pub keeps-all-covers : {So : List ℕ → Type 0} {rows : List ℕ} {narrow : List ℕ → Box → Box} → KeepsAll So rows narrow → Prunes So rows narrow
+pub keeps-all-covers : {So : List ℕ → Type 0} {rows : List ℕ} {prune : List ℕ → Box → Box} → KeepsAll So rows prune → Prunes So rows prune
 keeps-all-covers k = record { covers = λ chosen box w. keeps-covers (k .keeps chosen box w); good = k .good; long = k .long }
 
 -- where nothing is pruned
@@ -36,30 +36,30 @@ open-part : (So Part : List ℕ → Type 0) (chosen : List ℕ) (box : Box) (a :
 open-part So Part chosen box a p o = record { rest = o .rest; whole = o .whole; inside = o .inside; so = p }
 
 -- what keeps every member of a set keeps every member of any part of it
-pub keeps-all-part : {So : List ℕ → Type 0} (Part : List ℕ → Type 0) {rows : List ℕ} {narrow : List ℕ → Box → Box} → ((a : List ℕ) → Part a → So a)
-    → KeepsAll So rows narrow → KeepsAll Part rows narrow
-keeps-all-part {So} Part {rows} {narrow} f k =
+pub keeps-all-part : {So : List ℕ → Type 0} (Part : List ℕ → Type 0) {rows : List ℕ} {prune : List ℕ → Box → Box} → ((a : List ℕ) → Part a → So a)
+    → KeepsAll So rows prune → KeepsAll Part rows prune
+keeps-all-part {So} Part {rows} {prune} f k =
     record {
       keeps = λ chosen box w a. (
-        λ o. open-part So Part chosen (narrow chosen box) a (o .so) (k .keeps chosen box w a .0 (open-part Part So chosen box a (f a (o .so)) o)),
-        λ o. open-part So Part chosen box a (o .so) (k .keeps chosen box w a .1 (open-part Part So chosen (narrow chosen box) a (f a (o .so)) o)),
+        λ o. open-part So Part chosen (prune chosen box) a (o .so) (k .keeps chosen box w a .0 (open-part Part So chosen box a (f a (o .so)) o)),
+        λ o. open-part So Part chosen box a (o .so) (k .keeps chosen box w a .1 (open-part Part So chosen (prune chosen box) a (f a (o .so)) o)),
       );
       good = k .good;
       long = k .long;
     }
 
-pub prunes-then : {So : List ℕ → Type 0} {rows : List ℕ} {narrow after : List ℕ → Box → Box} → Prunes So rows narrow → Prunes So rows after
-    → Prunes So rows (λ chosen box. after chosen (narrow chosen box))
-prunes-then {So} {rows} {narrow} {after} p q =
+pub prunes-then : {So : List ℕ → Type 0} {rows : List ℕ} {prune after : List ℕ → Box → Box} → Prunes So rows prune → Prunes So rows after
+    → Prunes So rows (λ chosen box. after chosen (prune chosen box))
+prunes-then {So} {rows} {prune} {after} p q =
     record {
-      covers = λ chosen box w. covers-trans (p .covers chosen box w) (q .covers chosen (narrow chosen box) (w .0, p .good chosen box (w .1)));
-      good = λ chosen box g. q .good chosen (narrow chosen box) (p .good chosen box g);
-      long = λ chosen box. q .long chosen (narrow chosen box) ∙ p .long chosen box;
+      covers = λ chosen box w. covers-trans (p .covers chosen box w) (q .covers chosen (prune chosen box) (w .0, p .good chosen box (w .1)));
+      good = λ chosen box g. q .good chosen (prune chosen box) (p .good chosen box g);
+      long = λ chosen box. q .long chosen (prune chosen box) ∙ p .long chosen box;
     }
 
-pub prunes-same : {So : List ℕ → Type 0} (Twin : List ℕ → Type 0) {rows : List ℕ} {narrow : List ℕ → Box → Box} → ((a : List ℕ) → So a ↔ Twin a)
-    → Prunes So rows narrow → Prunes Twin rows narrow
-prunes-same {So} Twin {rows} {narrow} f p = record { covers = λ chosen box w. covers′ chosen box (p .covers chosen box w); good = p .good; long = p .long }
+pub prunes-same : {So : List ℕ → Type 0} (Twin : List ℕ → Type 0) {rows : List ℕ} {prune : List ℕ → Box → Box} → ((a : List ℕ) → So a ↔ Twin a)
+    → Prunes So rows prune → Prunes Twin rows prune
+prunes-same {So} Twin {rows} {prune} f p = record { covers = λ chosen box w. covers′ chosen box (p .covers chosen box w); good = p .good; long = p .long }
   where
     to : (chosen : List ℕ) (box : Box) (a : List ℕ) → Open So chosen box a → Open Twin chosen box a
     to chosen box a o = open-part So Twin chosen box a (f a .0 (o .so)) o
@@ -67,13 +67,13 @@ prunes-same {So} Twin {rows} {narrow} f p = record { covers = λ chosen box w. c
     from : (chosen : List ℕ) (box : Box) (a : List ℕ) → Open Twin chosen box a → Open So chosen box a
     from chosen box a o = open-part Twin So chosen box a (f a .1 (o .so)) o
 
-    covers′ : (chosen : List ℕ) (box : Box) → Covers (Open So chosen box) (Open So chosen (narrow chosen box)) → Covers (Open Twin chosen box) (Open Twin chosen (narrow chosen box))
+    covers′ : (chosen : List ℕ) (box : Box) → Covers (Open So chosen box) (Open So chosen (prune chosen box)) → Covers (Open Twin chosen box) (Open Twin chosen (prune chosen box))
     covers′ chosen box c =
         record {
-          part = λ a o. to chosen box a (c .part a (from chosen (narrow chosen box) a o));
+          part = λ a o. to chosen box a (c .part a (from chosen (prune chosen box) a o));
           cover = λ a o.
-              let k : (b : List ℕ) × Open So chosen (narrow chosen box) b × Upto b a = c .cover a (from chosen box a o) in
-              (k .0, to chosen (narrow chosen box) (k .0) (k .1), k .2);
+              let k : (b : List ℕ) × Open So chosen (prune chosen box) b × Upto b a = c .cover a (from chosen box a o) in
+              (k .0, to chosen (prune chosen box) (k .0) (k .1), k .2);
         }
 
 -- ---- rows that a test keeps
