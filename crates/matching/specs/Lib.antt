@@ -1,0 +1,4 @@
+pub mod Possible
+pub mod Steps
+pub mod Sound
+pub mod InWords
