@@ -2,12 +2,14 @@
 --     bit-zero, bit-suc, none-has     the lowest bit, and the others; no bits
 --     read-has                        the test that code writes, `(x >> j) & 1 == 1`
 --     and-has, or-has, only-has       the bits of `x & y`, `x | y` and `1 << k`
+--     xor-has, shift-has              the bits of `x ^ y` and `x >> k`
 --     low-lowest                      `u64::trailing_zeros(x)` is the lowest bit
 --     drop-has                        `x & (x - 1)` is x without its lowest bit
 --     ones-size                       `u64::count_ones(x)` is the number of bits
 --     word-some, word-none            a word is 0 just where it has no bit
 --     has-at, words-size              a set of several words, and the counts of its words added up
---     set-has, insert-has             a word written; a number put into a set
+--     set-has, insert-has, remove-has a word written; a number put into a set, and taken out
+--     has-on                          the words from a later one on
 --     both-has, either-has            what both sets have, or either, word by word
 --     words-none, words-first         no member in n words; the lowest member
 -- Assumes nothing.
@@ -19,11 +21,11 @@ use Prim.Native.Nat.{ℕ, zero, suc, _+_, _-_, _*_, _/_, _%_, _^_, _≤_, _<_, m
 use native.Mathlib.Nat.{pow-suc, pow-succ', div-div-eq-div-mul, div-one, div-lt-iff-lt-mul, zero-lt-suc}
 use native.Mathlib.Omega.{arith}
 use lib.Arith.{lt-one}
-use lib.Bits.{bitAnd, bitOr, and-step, or-step, and-mask, shifted-half, shifted-even, and-self}
+use lib.Bits.{bitAnd, bitOr, bitXor, differ, and-step, or-step, xor-step, and-mask, shifted-half, shifted-even, and-self}
 use lib.Count.{trailingZeros, under, ones, ones-step}
 use lib.Dec.{eqb, ltb, lit<, eqb·zero-suc, eqb·suc-zero, eqb·suc-suc}
 use lib.ListN.{length, getD, set}
-use lib.Pow.{shl-exact}
+use lib.Pow.{shl-exact, pow-add}
 use lib.Seq.{getD-set-same, getD-set-other}
 use borrow.Author.Tests.{eqb-true, eqb-false, eq-eqb, ne-eqb, ltb-true, ltb-false}
 use Rattle.meaning.proofs.Logic.{false-true}
@@ -46,6 +48,15 @@ none-has (suc j) = bit-suc 0 j ∙ none-has j
 
 half-lt : (d x : ℕ) → x < 2 ^ suc d → x / 2 < 2 ^ d
 half-lt d x h = div-lt-iff-lt-mul (zero-lt-suc 1) .1 (subst (λ (n : ℕ). x < n) (pow-suc 2 d) h)
+
+-- past the highest bit
+high-from : (d x j : ℕ) → x < 2 ^ d → d ≤ j → bitAt x j ≡ false
+high-from zero x j h l = ap (λ (n : ℕ). bitAt n j) (lt-one h) ∙ none-has j
+high-from (suc d) x zero h l = absurd (omega arith)
+high-from (suc d) x (suc j) h l = bit-suc x j ∙ high-from d (x / 2) j (half-lt d x h) (omega arith)
+
+pub high-none : (x j : ℕ) → x < 2 ^ 64 → 64 ≤ j → bitAt x j ≡ false
+high-none x j h l = high-from 64 x j h l
 
 -- `(x >> j) & 1 == 1`
 pub read-has : (x j : ℕ) → eqb (bitAnd (x / 2 ^ j) 1) 1 ≡ bitAt x j
@@ -104,6 +115,60 @@ or-has x y (suc j) =
     ∙ ap (λ (n : ℕ). bitAt n j) e
     ∙ or-has (x / 2) (y / 2) j
     ∙ ap₂ (λ (a b : Bool). a || b) (sym (bit-suc x j)) (sym (bit-suc y j))
+
+-- just one of two
+unfoldable pub either : Bool → Bool → Bool
+either true b = not b
+either false b = b
+
+differ-digit : (a b : ℕ) → a < 2 → b < 2 → eqb (differ a b) 1 ≡ either (eqb a 1) (eqb b 1)
+unfolding either
+differ-digit a b h l = go (digit a h) (digit b l)
+  where
+    go : (a ≡ 0) ⊎ (a ≡ 1) → (b ≡ 0) ⊎ (b ≡ 1) → eqb (differ a b) 1 ≡ either (eqb a 1) (eqb b 1)
+    go (inl p) (inl q) = rw (p, q) refl
+    go (inl p) (inr q) = rw (p, q) refl
+    go (inr p) (inl q) = rw (p, q) refl
+    go (inr p) (inr q) = rw (p, q) refl
+
+differ-small : (a b : ℕ) → a < 2 → b < 2 → differ a b < 2
+differ-small a b h l = go (digit a h) (digit b l)
+  where
+    go : (a ≡ 0) ⊎ (a ≡ 1) → (b ≡ 0) ⊎ (b ≡ 1) → differ a b < 2
+    go (inl p) (inl q) = rw (p, q) (lit< tt)
+    go (inl p) (inr q) = rw (p, q) (lit< tt)
+    go (inr p) (inl q) = rw (p, q) (lit< tt)
+    go (inr p) (inr q) = rw (p, q) (lit< tt)
+
+pub xor-has : (x y j : ℕ) → bitAt (bitXor x y) j ≡ either (bitAt x j) (bitAt y j)
+xor-has x y zero =
+    let e : bitXor x y % 2 ≡ differ (x % 2) (y % 2) = omega (arith, xor-step x y, differ-small (x % 2) (y % 2) (omega arith) (omega arith)) in
+    bit-zero (bitXor x y)
+    ∙ ap (λ (n : ℕ). eqb n 1) e
+    ∙ differ-digit (x % 2) (y % 2) (omega arith) (omega arith)
+    ∙ ap₂ (λ (a b : Bool). either a b) (sym (bit-zero x)) (sym (bit-zero y))
+xor-has x y (suc j) =
+    let e : bitXor x y / 2 ≡ bitXor (x / 2) (y / 2) = omega (arith, xor-step x y, differ-small (x % 2) (y % 2) (omega arith) (omega arith)) in
+    bit-suc (bitXor x y) j
+    ∙ ap (λ (n : ℕ). bitAt n j) e
+    ∙ xor-has (x / 2) (y / 2) j
+    ∙ ap₂ (λ (a b : Bool). either a b) (sym (bit-suc x j)) (sym (bit-suc y j))
+
+-- `x >> k`
+pub shift-has : (x k j : ℕ) → bitAt (x / 2 ^ k) j ≡ bitAt x (k + j)
+unfolding bitAt
+shift-has x k j = ap (λ (n : ℕ). eqb (n % 2) 1) (div-div-eq-div-mul x (2 ^ k) (2 ^ j) ∙ ap (λ (n : ℕ). x / n) (sym (pow-add 2 k j)))
+
+-- `(x | y) ^ y`
+pub without-has : (x y j : ℕ) → bitAt (bitXor (bitOr x y) y) j ≡ (bitAt x j && not (bitAt y j))
+unfolding either
+without-has x y j = xor-has (bitOr x y) y j ∙ ap (λ (b : Bool). either b (bitAt y j)) (or-has x y j) ∙ go (bitAt x j) (bitAt y j)
+  where
+    go : (a b : Bool) → either (a || b) b ≡ (a && not b)
+    go true true = refl
+    go true false = refl
+    go false true = refl
+    go false false = refl
 
 power-has : (k j : ℕ) → bitAt (1 * 2 ^ k) j ≡ eqb j k
 power-has zero zero = bit-zero 1
@@ -305,6 +370,46 @@ insert-has ws base k h j = set-has ws base (k / 64) (bitOr x y) h j ∙ go (eqb 
         none : (b : Bool) → b ≡ (b || false)
         none true = refl
         none false = refl
+
+-- `ws[base + k / 64] = (ws[base + k / 64] | 1 << (k % 64)) ^ 1 << (k % 64)`
+pub remove-has : (ws : List ℕ) (base k : ℕ) → base + k / 64 < length ws → (j : ℕ)
+    → has (set ws (base + k / 64) (bitXor (bitOr (getD ws (base + k / 64) 0) ((1 * 2 ^ (k % 64)) % 2 ^ 64)) ((1 * 2 ^ (k % 64)) % 2 ^ 64))) base j
+    ≡ (has ws base j && not (eqb j k))
+unfolding has
+remove-has ws base k h j = set-has ws base (k / 64) (bitXor (bitOr x y) y) h j ∙ go (eqb (j / 64) (k / 64)) refl
+  where
+    x : ℕ
+    x = getD ws (base + k / 64) 0
+
+    y : ℕ
+    y = (1 * 2 ^ (k % 64)) % 2 ^ 64
+
+    go : (b : Bool) → eqb (j / 64) (k / 64) ≡ b
+        → elim b [ true ↦ bitAt (bitXor (bitOr x y) y) (j % 64) | false ↦ has ws base j ] ≡ (has ws base j && not (eqb j k))
+    go true e =
+        without-has x y (j % 64)
+        ∙ ap₂ (λ (a b : Bool). a && not b) (word (eqb-true (j / 64) (k / 64) e))
+        (only-has (k % 64) (j % 64) (omega arith) ∙ same (eqb-true (j / 64) (k / 64) e) (eqb (j % 64) (k % 64)) refl)
+      where
+        word : j / 64 ≡ k / 64 → bitAt x (j % 64) ≡ has ws base j
+        word z = rw (has, z) refl
+
+        same : j / 64 ≡ k / 64 → (b : Bool) → eqb (j % 64) (k % 64) ≡ b → b ≡ eqb j k
+        same z true q = sym (eq-eqb j k (omega (arith, eqb-true (j % 64) (k % 64) q)))
+        same z false q = sym (ne-eqb j k (λ u. eqb-false (j % 64) (k % 64) q (ap (λ (n : ℕ). n % 64) u)))
+    go false e = all (has ws base j) ∙ ap (λ (b : Bool). has ws base j && not b) (sym (ne-eqb j k (λ u. eqb-false (j / 64) (k / 64) e (ap (λ (n : ℕ). n / 64) u))))
+      where
+        all : (b : Bool) → b ≡ (b && not false)
+        all true = refl
+        all false = refl
+
+-- the words from word i on
+pub has-on : (ws : List ℕ) (base i k : ℕ) → has ws (base + i) k ≡ has ws base (i * 64 + k)
+unfolding has
+has-on ws base i k =
+    let d : base + i + k / 64 ≡ base + (i * 64 + k) / 64 = omega arith in
+    let m : k % 64 ≡ (i * 64 + k) % 64 = omega arith in
+    ap₂ (λ (a b : ℕ). bitAt (getD ws a 0) b) d m
 
 -- ---- words of two sets, one by one
 

@@ -5,13 +5,16 @@
 --     sizeOf           how many members n words have
 --     Met, Places      n words hold what they and n others had in common, and no other word has changed; both stand in the run, apart
 --     Low              the lowest member of n words, or n * 64
+--     Next             the lowest that is no lower than a bound, or n * 64
+--     United           n words hold what they or n words of another run had, and no other word has changed
+--     Emptied          n words without a member
 -- Assumes nothing.
 use mathlib.Core.Bool.{Bool, true, false, _||_}
 use mathlib.Core.List.{List}
 use mathlib.Core.Path.{_≡_}
 use mathlib.Core.Logic.{_⊎_}
 use Prim.Native.Nat.{ℕ, zero, suc, _+_, _*_, _/_, _%_, _^_, _≤_, _<_}
-use lib.Bits.{bitAnd}
+use lib.Bits.{bitAnd, bitOr}
 use lib.Count.{ones}
 use lib.Dec.{eqb}
 use lib.ListN.{length, getD}
@@ -54,3 +57,18 @@ pub record Low (ws : List ℕ) (base n r : ℕ) : Type 0 where
   pub within : r ≤ n * 64
   pub here : r < n * 64 → has ws base r ≡ true
   pub first : (k : ℕ) → k < r → has ws base k ≡ false
+
+pub record Next (ws : List ℕ) (base n from r : ℕ) : Type 0 where
+  pub within : r ≤ n * 64
+  pub later : from ≤ n * 64 → from ≤ r
+  pub here : r < n * 64 → has ws base r ≡ true
+  pub first : (k : ℕ) → from ≤ k → k < r → has ws base k ≡ false
+
+pub record United (old more new : List ℕ) (a b n : ℕ) : Type 0 where
+  pub long : length new ≡ length old
+  pub words : (j : ℕ) → j < n → getD new (a + j) 0 ≡ bitOr (getD old (a + j) 0) (getD more (b + j) 0)
+  pub others : (j : ℕ) → (j < a) ⊎ (a + n ≤ j) → getD new j 0 ≡ getD old j 0
+
+pub record Emptied (n : ℕ) (ws : List ℕ) : Type 0 where
+  pub long : length ws ≡ n
+  pub words : (j : ℕ) → getD ws j 0 ≡ 0

@@ -1,0 +1,4 @@
+pub mod Beside
+pub mod Live
+pub mod Rows
+pub mod Ways
