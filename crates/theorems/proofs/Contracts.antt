@@ -59,15 +59,15 @@ found-shown input l w =
 
 -- ---- the checker of grounds
 
-module _ (text firsts seconds thirds : List ℕ) (spaces : Spaces text firsts seconds thirds) (input : List ℕ) where
-  parsed-whole : Parsed input (ended text firsts seconds thirds input)
+module _ (text : List ℕ) (steps : List (List ℕ)) (spaces : Spaces text steps) (input : List ℕ) where
+  parsed-whole : Parsed input (ended text steps input)
   parsed-whole =
-      parsed input (fed input (memory fresh text firsts seconds thirds))
-      (stands-fed [] input (memory fresh text firsts seconds thirds)
-      (stands-start text firsts seconds thirds (spaces .text-long) (spaces .firsts-long) (spaces .seconds-long) (spaces .thirds-long)))
+      parsed input (fed input (memory fresh text steps))
+      (stands-fed [] input (memory fresh text steps)
+      (stands-start text steps (spaces .text-long) (spaces .steps-long)))
 
-  pub verify-shown : (l : Line) → PrintsAfter (ended text firsts seconds thirds input) l → VerifyPrints narrow input (shownIn l)
-  verify-shown l p = shown (verify-prints input (ended text firsts seconds thirds input) l parsed-whole p)
+  pub verify-shown : (l : Line) → PrintsAfter (ended text steps input) l → VerifyPrints narrow input (shownIn l)
+  verify-shown l p = shown (verify-prints input (ended text steps input) l parsed-whole p)
     where
       shown : (line : List ℕ) × VerifyPrints narrow input line × Prints line (l .bytes) (l .len) → VerifyPrints narrow input (shownIn l)
       shown w =

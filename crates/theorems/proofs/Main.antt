@@ -32,7 +32,7 @@ use Rattle.judging.proofs.Answers as Judging
 use Rattle.grounds_steps.specs.Steps.{mostSteps}
 use Rattle.writer.specs.Claims.{Writes as WritesGrounds}
 use Rattle.writer.specs.declared.Grounds.{Grounds}
-use Rattle.writer.proofs.Answers.{columnOf, writes-accepted}
+use Rattle.writer.proofs.Answers.{writes-accepted}
 use Rattle.framing.specs.Opening as Framing
 use Rattle.framing.specs.Filling.{framesFrom}
 use Rattle.framing.specs.declared.opening.Opened.{Opened as GroundsOpened}
@@ -65,12 +65,12 @@ pub list-ends : (input : List ℕ) (o : ListOpened) → Listing.Opens input o �
 list-ends = opened-ends
 
 -- Grounds that `judging::judge` accepts, whoever wrote them, show a breach of the text's rule.
-pub accepted-breach : (text places firsts seconds thirds : List ℕ) (d : Conclusions) → JudgesTo text places firsts seconds thirds d (Judged Accepted) → BreachOf narrow text places
-accepted-breach text places firsts seconds thirds d j = Judging.accepted-breach _ _ _ narrow text (j .judges)
+pub accepted-breach : (text places : List ℕ) (steps : List (List ℕ)) (d : Conclusions) → JudgesTo text places steps d (Judged Accepted) → BreachOf narrow text places
+accepted-breach text places steps d j = Judging.accepted-breach _ _ _ narrow text (j .judges)
 
 -- Grounds that `writer::write` gives for a breach are accepted.
 pub ours-accepted : (text : List ℕ) (steps : List (List ℕ)) (r : Grounds) (x : List (List ℕ)) → WritesGrounds text steps r x → (n : ℕ) → r .outcome ≡ Breach n
-    → (o : Judgement) → JudgesTo text (r .places) (columnOf 0 (take (r .steps) x)) (columnOf 1 (take (r .steps) x)) (columnOf 2 (take (r .steps) x)) (r .conclusions) o
+    → (o : Judgement) → JudgesTo text (r .places) (take (r .steps) x) (r .conclusions) o
     → o ≡ Judged Accepted
 ours-accepted = writes-accepted
 
@@ -89,6 +89,6 @@ pub grounds-prints : (input : List ℕ) (steps : List (List ℕ)) (o : GroundsOp
 grounds-prints input steps o x room w = (found-shown input (o .line) (opened-found input steps o x room w), opened-alone input steps o x w)
 
 -- What `verify` prints for an input that was fed to it whole, in whatever pieces.
-pub verify-prints : (text firsts seconds thirds : List ℕ) → Spaces text firsts seconds thirds → (input : List ℕ) (l : Line)
-    → PrintsAfter (ended text firsts seconds thirds input) l → VerifyPrints narrow input (shownIn l)
+pub verify-prints : (text : List ℕ) (steps : List (List ℕ)) → Spaces text steps → (input : List ℕ) (l : Line)
+    → PrintsAfter (ended text steps input) l → VerifyPrints narrow input (shownIn l)
 verify-prints = verify-shown

@@ -50,14 +50,12 @@ shownIn l = take (l .len) (l .bytes)
 
 -- ---- `verify`: spaces that are long enough, what they hold after an input, and the line for it
 
-pub record Spaces (text firsts seconds thirds : List ℕ) : Type 0 where
+pub record Spaces (text : List ℕ) (steps : List (List ℕ)) : Type 0 where
   pub text-long : inputLimit ≤ length text
-  pub firsts-long : stepLimit ≤ length firsts
-  pub seconds-long : stepLimit ≤ length seconds
-  pub thirds-long : stepLimit ≤ length thirds
+  pub steps-long : stepLimit ≤ length steps
 
-abbrev pub ended : List ℕ → List ℕ → List ℕ → List ℕ → List ℕ → Memory
-ended text firsts seconds thirds input = finished (fed input (memory fresh text firsts seconds thirds))
+abbrev pub ended : List ℕ → List (List ℕ) → List ℕ → Memory
+ended text steps input = finished (fed input (memory fresh text steps))
 
 abbrev pub PrintsAfter : Memory → Line → Type 0
-PrintsAfter m l = PrintsFor (m .parser) (m .text) (m .firsts) (m .seconds) (m .thirds) l
+PrintsAfter m l = PrintsFor (m .parser) (m .text) (m .steps) l

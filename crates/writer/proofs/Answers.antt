@@ -9,7 +9,7 @@
 --     columnOf          word i of each step
 --     writes-accepted   the checker accepts what is written for a breach
 -- Assumes nothing.
-use mathlib.Core.List.{List, [], _∷_, map}
+use mathlib.Core.List.{List, [], map}
 use mathlib.Core.Path.{_≡_, refl, sym, ap, _∙_, subst}
 use Prim.Native.Nat.{ℕ, _≤_}
 use native.Mathlib.Omega.{arith}
@@ -20,8 +20,7 @@ use Rattle.meaning.specs.Equality.{Consistent}
 use Rattle.meaning.specs.Rules.{Clause, found, nothing}
 use Rattle.meaning.specs.Text.{narrow, Refusal, Reading, faulty, taken, read}
 use Rattle.meaning.specs.Replies.{Reply, breach, none, refused, replyOf, placesOf, Judged, empty, clashes, answers, Replies, RepliesTo}
-use Rattle.meaning.specs.Grounds.{Step, accepted}
-use Rattle.meaning.specs.GroundColumns.{stepsFrom}
+use Rattle.meaning.specs.Grounds.{accepted}
 use Rattle.meaning.proofs.Answered.{replies-one}
 use Rattle.meaning.proofs.Bounds.{read-bounded}
 use Rattle.search.specs.declared.Kind.the-variants as S
@@ -88,12 +87,6 @@ told-breach n (refused f) e = absurd (let z : _≡_ {A = ℕ} 8 10 = cc in omega
 -- word i of each step
 abbrev pub columnOf : ℕ → List (List ℕ) → List ℕ
 columnOf i steps = map (λ (w : List ℕ). getD w i 0) steps
-
--- three columns say what the words of steps do
-columns-say : (l : List (List ℕ)) → stepsFrom (columnOf 0 l) (columnOf 1 l) (columnOf 2 l) ≡ stepsOf l
-unfolding stepsFrom stepsOf
-columns-say [] = refl
-columns-say (w ∷ l) = ap (λ (z : List Step). stepOf w ∷ z) (columns-say l)
 
 module _ (text : List ℕ) (steps : List (List ℕ)) where
   pub writes-finds : (r : Grounds) (x : List (List ℕ)) → mostSteps ≤ length steps → Writes text steps r x
@@ -184,13 +177,9 @@ module _ (text : List ℕ) (steps : List (List ℕ)) where
     unfolding stepsOf
     writes-many = length-map (take (r .steps) x) stepOf ∙ length-take-le (r .steps) x (omega (arith, fits, shown .shown .words .long))
 
-    -- as the checker's three columns
-    abbrev column : ℕ → List ℕ
-    column i = columnOf i (take (r .steps) x)
-
-    pub writes-accepted : (o : Judgement) → JudgesTo text (r .places) (column 0) (column 1) (column 2) (r .conclusions) o → o ≡ W.Judged Verdict.Accepted
+    pub writes-accepted : (o : Judgement) → JudgesTo text (r .places) (take (r .steps) x) (r .conclusions) o → o ≡ W.Judged Verdict.Accepted
     writes-accepted o j =
-        judges-one text (r .places) (column 0) (column 1) (column 2) (r .conclusions) o (W.Judged Verdict.Accepted) j
+        judges-one text (r .places) (take (r .steps) x) (r .conclusions) o (W.Judged Verdict.Accepted) j
         (record {
-          judges = J.judges (shown .said) (shown .reads) (J.judged accepted) (J.weighs (ready .0) (ready .1) accepted (rw (columns-say (take (r .steps) x)) (shown .shown .verified)));
+          judges = J.judges (shown .said) (shown .reads) (J.judged accepted) (J.weighs (ready .0) (ready .1) accepted (shown .shown .verified));
         })

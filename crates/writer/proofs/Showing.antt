@@ -16,7 +16,7 @@ use Rattle.meaning.specs.Formed.{Formed}
 use Rattle.meaning.specs.Grounds.{Step, stepAt, Conclusion, conclusionFor, Each, instancesOf, literalAt, Derives, by-statement, by-reflexivity, by-symmetry, by-transitivity, by-congruence, by-addition, Verified, accepted}
 use Rattle.meaning.specs.Checking.{entries}
 use Rattle.verifier.specs.declared.Conclusions.{Conclusions}
-use Rattle.verifier.proofs.Judging.{conclusions-at}
+use Rattle.verifier.proofs.Concluding.{conclusions-at}
 use Rattle.judging.specs.Claims.{concludedIn}
 use Rattle.numbering.specs.Entries.{Filled}
 use Rattle.numbering.specs.declared.table.Table.{Table}
