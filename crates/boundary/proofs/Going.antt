@@ -24,7 +24,7 @@ use Rattle.meaning.proofs.Order.{same-first}
 use Rattle.meaning.proofs.Promised.{closing-represents}
 use Rattle.meaning.proofs.Listing.{Nexts, enumerates-goes, goes-enumerates}
 use Rattle.meaning.proofs.ListingNext.{first-sought, own-sought}
-use Rattle.finder.specs.Following.{FollowsIn}
+use Rattle.finder.specs.Later.{FollowsIn}
 
 module _ (c : Context) (k : Clause) (formed : Formed c k) (free : Consistent c) where
   represents : Representatives c (repOf c)

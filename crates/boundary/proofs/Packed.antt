@@ -30,8 +30,8 @@ use Rattle.meaning.proofs.Kept.{ContextFits, read-kept}
 use Rattle.meaning.proofs.Taken.{read-formed}
 use Rattle.replies.specs.Told.{toldBy, toldOf}
 use Rattle.finder.specs.Claims.{Finds}
-use Rattle.finder.specs.Following.{Follows}
-use Rattle.finder.proofs.Following.{followed-one}
+use Rattle.finder.specs.Later.{Follows}
+use Rattle.finder.proofs.Later.{followed-one}
 use Rattle.replies.specs.declared.Outcome.{Outcome}
 use Rattle.replies.specs.declared.Outcome.the-variants as O
 use Rattle.replies.specs.declared.Reply.{Reply}

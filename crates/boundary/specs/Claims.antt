@@ -10,7 +10,7 @@ use Prim.Native.Nat.{ℕ}
 use Rattle.meaning.specs.Text.{narrow}
 use Rattle.meaning.specs.Replies.{Reply, breach, none, refused, placesOf, Replies, Written, Writes}
 use Rattle.meaning.specs.Packing.{packedReply, packedWritten}
-use Rattle.finder.specs.Following.{FollowsTo}
+use Rattle.finder.specs.Later.{FollowsTo}
 
 unfoldable pub rowsAfter : Reply → List ℕ → List ℕ
 rowsAfter (breach a) rows = placesOf (breach a)

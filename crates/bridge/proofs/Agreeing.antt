@@ -21,7 +21,7 @@ use Rattle.meaning.proofs.Lines.{Each, each-map}
 use Rattle.meaning.proofs.Kept.{RowFits, PatternFits, Kept}
 use Rattle.runs.specs.Runs.{each}
 use Rattle.runs.proofs.Saying.{each-length, each-at}
-use Rattle.told.specs.Numbers.{rowNumbers, saidNumbers, patternNumbers, literalNumbers, numbersOf}
+use Rattle.text_runs.specs.Numbers.{rowNumbers, saidNumbers, patternNumbers, literalNumbers, numbersOf}
 use Rattle.ledger.specs.Columns.{contextColumns, clauseColumns}
 use Rattle.bridge.specs.Columns.{numberAt, smallAt, argAt, tallied, countOf, contextLaid, clauseLaid}
 use Rattle.bridge.proofs.Laying.{count-more, context-is, clause-is}

@@ -10,7 +10,7 @@ use lib.ListN.{length, take, replicate}
 use Rattle.meaning.specs.Text.{narrow}
 use Rattle.meaning.specs.Replies.{FindPrints}
 use Rattle.reply_lines.specs.declared.Line.{Line}
-use Rattle.printing.specs.Claims.{PrintsFound}
+use Rattle.outputs.specs.Claims.{PrintsFound}
 use Rattle.channels.proofs.Fronts.{front-fits, front-taken, first-count}
 use Rattle.channels.proofs.Taking.{takes-within, takes-read}
 

@@ -24,7 +24,7 @@ fn answer(got: Got, input: &[u8]) -> Sent
     requires { ⌜ Read got (now input) ⌝ }
     ensures { λ s. ⌜ Delivers (FindPrints narrow (now (input .entry))) s ⌝ }
 {
-    let line = printing::find_prints(input);
+    let line = outputs::find_prints(input);
     let bytes = line.bytes;
     let len = line.len;
     hand(input, &bytes[..len])

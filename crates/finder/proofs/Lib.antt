@@ -2,4 +2,4 @@
 pub mod Ready
 pub mod Standing
 pub mod Judging
-pub mod Following
+pub mod Later

@@ -19,7 +19,7 @@ use Rattle.replies.specs.declared.Refusal.{Refusal}
 use Rattle.replies.specs.declared.Outcome.the-variants.{Breach, Clear, Refused}
 use Rattle.replies.specs.declared.Reply.{Reply}
 use Rattle.runs.specs.Limits.{mostVariables, unusedPlace}
-use Rattle.told.specs.declared.Told.{Told}
+use Rattle.text_runs.specs.declared.Told.{Told}
 use Rattle.replies.specs.Told.{toldBy, toldOf}
 
 pub record MarkedIn (c : ContextColumns) (table marks : List ℕ) : Type 0 where

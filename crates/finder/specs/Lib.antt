@@ -1,3 +1,3 @@
 -- The root of the definitions.
 pub mod Claims
-pub mod Following
+pub mod Later

@@ -14,7 +14,7 @@ use runs::limits::ROWS;
 use runs::limits::UNUSED;
 use runs::limits::VARIABLES;
 use search::Kind;
-use told::Told;
+use text_runs::Told;
 ghost use mathlib.Core.Path.{_≡_};
 ghost use lib.ListN.{take};
 ghost use Rattle.meaning.specs.Equality.{Promise};
@@ -24,7 +24,7 @@ ghost use Rattle.search.specs.Hunting.{answerOf};
 ghost use Rattle.search.specs.Finding.{foundBy};
 ghost use Rattle.prepared.specs.Claims.{said, asked, Asks};
 ghost use Rattle.finder.specs.Claims.{MarkedIn, Parts, Filled, refusedWith, answeredWith, Finds};
-ghost use Rattle.finder.specs.Following.{Follows};
+ghost use Rattle.finder.specs.Later.{Follows};
 
 fn refused(x: Refusal) -> Reply
     ensures { λ r. ⌜ r ≡ refusedWith x ⌝ }

@@ -20,15 +20,15 @@ use lib.ListN.{length, take, drop, replicate, length-replicate}
 use Rattle.meaning.specs.Text.{narrow}
 use Rattle.meaning.specs.Replies.{FindPrints}
 use Rattle.reply_lines.specs.Pieces.{run}
-use Rattle.printing.specs.Claims.{PrintsFound}
-use Rattle.verifier.specs.declared.Conclusions.{Conclusions}
+use Rattle.outputs.specs.Claims.{PrintsFound}
+use Rattle.grounds_verdict.specs.declared.Conclusions.{Conclusions}
 use Rattle.grounds_steps.specs.Steps.{mostSteps}
-use Rattle.framing.specs.Filling.{itemCount, lineIn, framesFrom, countFrom, fillsFrom, Fills}
-use Rattle.framing.specs.Opening.{Opens}
-use Rattle.framing.specs.declared.Filled.{Filled}
-use Rattle.framing.specs.declared.opening.Opened.{Opened}
-use Rattle.framing.proofs.Filling.{fills-rest, fills-on}
-use Rattle.framing.proofs.Output.{opened-found}
+use Rattle.grounds_lines.specs.Filling.{itemCount, lineIn, framesFrom, countFrom, fillsFrom, Fills}
+use Rattle.grounds_lines.specs.Opening.{Opens}
+use Rattle.grounds_lines.specs.declared.Filled.{Filled}
+use Rattle.grounds_lines.specs.declared.opening.Opened.{Opened}
+use Rattle.grounds_lines.proofs.Filling.{fills-rest, fills-on}
+use Rattle.grounds_lines.proofs.Output.{opened-found}
 use Rattle.channels.specs.declared.output.Sent.{Sent}
 use Rattle.channels.specs.Sending.{noneSent, bothOf, wholeBy, Carries, Delivers}
 use Rattle.channels.proofs.Fronts.{front-fits, front-taken, first-count}

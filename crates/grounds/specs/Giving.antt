@@ -11,11 +11,11 @@ use Prim.Native.Nat.{ℕ, _≤_, _<_}
 use lib.ListN.{length}
 use Rattle.meaning.specs.Text.{narrow}
 use Rattle.meaning.specs.Replies.{FindPrints}
-use Rattle.verifier.specs.declared.Conclusions.{Conclusions}
+use Rattle.grounds_verdict.specs.declared.Conclusions.{Conclusions}
 use Rattle.grounds_steps.specs.Steps.{mostSteps}
-use Rattle.framing.specs.Filling.{itemCount, framesFrom}
-use Rattle.framing.specs.Opening.{Opens}
-use Rattle.framing.specs.declared.opening.Opened.{Opened}
+use Rattle.grounds_lines.specs.Filling.{itemCount, framesFrom}
+use Rattle.grounds_lines.specs.Opening.{Opens}
+use Rattle.grounds_lines.specs.declared.opening.Opened.{Opened}
 use Rattle.channels.specs.declared.output.Sent.{Sent}
 use Rattle.channels.specs.Sending.{Carries}
 

@@ -10,11 +10,11 @@ use channels::output::put;
 use channels::telling::FAILED;
 use channels::telling::report;
 use channels::telling::tell;
-use framing::opening::Opened;
-use framing::opening::open;
+use grounds_lines::opening::Opened;
+use grounds_lines::opening::open;
 use grounds_steps::STEPS;
 use grounds_steps::WORDS;
-use verifier::Conclusions;
+use grounds_verdict::Conclusions;
 ghost use Prim.Native.Nat.{_≤_};
 ghost use Rattle.meaning.specs.Text.{narrow};
 ghost use Rattle.meaning.specs.Replies.{FindPrints};
@@ -61,7 +61,7 @@ fn piece(steps: &[[u64; WORDS]], many: usize, d: Conclusions, literals: usize, f
     ensures { λ r. ⌜ Gives (now (steps .entry)) many d literals from (r .next) (r .sent) ⌝ }
 {
     let mut space = [0u8; PIECE];
-    let filled = framing::fill(steps, many, d, literals, from, &mut space);
+    let filled = grounds_lines::fill(steps, many, d, literals, from, &mut space);
     let used = filled.used;
     let next = filled.next;
     let sent = hand(steps, many, d, literals, from, next, &space[..used]);
@@ -72,7 +72,7 @@ fn piece(steps: &[[u64; WORDS]], many: usize, d: Conclusions, literals: usize, f
 fn list(steps: &[[u64; WORDS]], many: usize, d: Conclusions, literals: usize) -> Sent
     ensures { λ s. ⌜ Lists (now (steps .entry)) many d literals s ⌝ }
 {
-    let end = framing::items(steps, many, literals);
+    let end = grounds_lines::items(steps, many, literals);
     let mut sent = nothing();
     let mut at = 0;
     while at < end {

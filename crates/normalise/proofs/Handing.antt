@@ -13,9 +13,9 @@ use lib.ListN.{length, take, replicate, length-replicate}
 use Rattle.meaning.specs.Text.{narrow}
 use Rattle.meaning.specs.Replies.{refused, printed, NormalisePrints, Written, wrote, unwritten}
 use Rattle.reply_lines.specs.Prints.{Prints}
-use Rattle.printing.specs.Claims.{normalLimit, PartsOf, PrintsNormal}
-use Rattle.printing.specs.declared.Parts.{Parts}
-use Rattle.printing.proofs.Outputs.{output-fits, output-prints}
+use Rattle.outputs.specs.Claims.{normalLimit, PartsOf, PrintsNormal}
+use Rattle.outputs.specs.declared.Parts.{Parts}
+use Rattle.outputs.proofs.Outputs.{output-fits, output-prints}
 use Rattle.channels.specs.declared.output.Sent.{Sent}
 use Rattle.channels.specs.Sending.{bothOf, wholeBy, Carries, Delivers}
 use Rattle.channels.proofs.Sending.{carries-both, delivers-one, delivers-none}

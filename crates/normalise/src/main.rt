@@ -32,8 +32,8 @@ fn answer(got: Got, input: &[u8]) -> Sent
     requires { ⌜ Read got (now input) ⌝ }
     ensures { λ s. ⌜ Delivers (NormalisePrints narrow (now (input .entry))) s ⌝ }
 {
-    let mut space = printing::normal_space();
-    let parts = printing::normalise_prints(input, &mut space);
+    let mut space = outputs::normal_space();
+    let parts = outputs::normalise_prints(input, &mut space);
     let text = parts.text;
     let line = parts.line;
     let bytes = line.bytes;

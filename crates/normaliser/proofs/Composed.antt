@@ -25,9 +25,9 @@ use Rattle.runs.specs.Fit.{FitContext}
 use Rattle.runs.proofs.Saying.{length-rows}
 use Rattle.replies.specs.Told.{meant}
 use Rattle.replies.specs.declared.Refusal.{Refusal}
-use Rattle.told.specs.Reads.{toldBy, toldOf, readOf}
-use Rattle.told.specs.declared.Answer.the-variants as R
-use Rattle.told.specs.declared.Told.{Told}
+use Rattle.text_runs.specs.Reads.{toldBy, toldOf, readOf}
+use Rattle.text_runs.specs.declared.Answer.the-variants as R
+use Rattle.text_runs.specs.declared.Told.{Told}
 use Rattle.classes.specs.Claims.{clashing}
 use Rattle.classes.specs.declared.Contradiction.the-variants.{First, Clear}
 use Rattle.ruling.specs.Claims.{rowsIn, saidIn, contextIn, ClosesText}

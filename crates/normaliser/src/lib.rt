@@ -42,7 +42,7 @@ pub fn normalise(text: &[u8], lent: &mut [u8]) -> Written
     let closed = ruling::close(text);
     let told = closed.told;
     let answer = told.answer;
-    if let told::Answer::Refused(x) = answer {
+    if let text_runs::Answer::Refused(x) = answer {
         return Written::Refused(x);
     }
     let clash = closed.clash;

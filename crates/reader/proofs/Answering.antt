@@ -11,12 +11,12 @@ use borrow.Author.Needs.{needs}
 use Rattle.meaning.specs.Columns.{pad, fours}
 use Rattle.meaning.specs.Text as M
 use Rattle.meaning.specs.Text.{faulty, taken, read, narrow}
-use Rattle.told.specs.Reads as T
-use Rattle.told.specs.declared.Answer as O
-use Rattle.told.specs.declared.Answer.the-variants as U
+use Rattle.text_runs.specs.Reads as T
+use Rattle.text_runs.specs.declared.Answer as O
+use Rattle.text_runs.specs.declared.Answer.the-variants as U
 use Rattle.replies.specs.declared.Refusal.{Refusal}
-use Rattle.told.specs.declared.Told.{Told}
-use Rattle.told.proofs.Saying.{told-kept}
+use Rattle.text_runs.specs.declared.Told.{Told}
+use Rattle.text_runs.proofs.Saying.{told-kept}
 use Rattle.bridge.specs.Columns.{contextLaid, clauseLaid}
 use Rattle.bridge.proofs.Agreeing.{context-agrees, clause-agrees}
 use Rattle.ledger.specs.Columns.{contextColumns, clauseColumns, noContext, noClause}

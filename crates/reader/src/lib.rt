@@ -5,7 +5,7 @@ use ledger::ClauseColumns;
 use ledger::ContextColumns;
 use replies::Refusal;
 ghost use mathlib.Core.Path.{_≡_};
-ghost use Rattle.told.specs.Reads as T;
+ghost use Rattle.text_runs.specs.Reads as T;
 ghost use Rattle.reader.specs.Reads.{toldBy, Reads};
 
 pub enum Answer {
@@ -19,12 +19,12 @@ pub struct Reading {
     pub clause: ClauseColumns,
 }
 
-fn answer_of(a: told::Answer) -> Answer
+fn answer_of(a: text_runs::Answer) -> Answer
     ensures { λ r. ⌜ toldBy r ≡ T.toldBy a ⌝ }
 {
     match a {
-        told::Answer::Taken => Answer::Taken,
-        told::Answer::Refused(x) => Answer::Refused(x),
+        text_runs::Answer::Taken => Answer::Taken,
+        text_runs::Answer::Refused(x) => Answer::Refused(x),
     }
 }
 

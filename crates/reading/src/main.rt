@@ -4,7 +4,7 @@ use runs::limits::LITERAL;
 use runs::limits::PATTERN;
 use runs::limits::ROW;
 use runs::limits::SAID;
-use told::Answer;
+use text_runs::Answer;
 
 fn say(what: &[u8], n: u64) {
     io::write_all(STDOUT_FILENO, what);

@@ -11,7 +11,7 @@ use Rattle.meaning.specs.Rules.{Clause}
 use Rattle.meaning.specs.Text as M
 use Rattle.meaning.specs.Replies.{Judged, empty, refused, refusal}
 use Rattle.meaning.proofs.Answered.{judged-one}
-use Rattle.told.specs.declared.Answer.the-variants as R
+use Rattle.text_runs.specs.declared.Answer.the-variants as R
 use Rattle.classes.specs.declared.Contradiction.the-variants.{First}
 use Rattle.ruling.specs.Order.{ruledBy}
 use Rattle.ruling.specs.declared.Answer.{Answer}

@@ -28,11 +28,11 @@ use Rattle.runs.specs.Runs.{statementsOf}
 use Rattle.runs.proofs.Saying.{length-literals}
 use Rattle.replies.specs.declared.Refusal.{Refusal}
 use Rattle.replies.specs.Told.{meant}
-use Rattle.told.specs.Reads.{toldBy, toldOf, readOf, Reads}
-use Rattle.told.specs.declared.Answer as T
-use Rattle.told.specs.declared.Answer.the-variants as R
-use Rattle.told.specs.declared.Told.{Told}
-use Rattle.told.proofs.Answers.{reads-one}
+use Rattle.text_runs.specs.Reads.{toldBy, toldOf, readOf, Reads}
+use Rattle.text_runs.specs.declared.Answer as T
+use Rattle.text_runs.specs.declared.Answer.the-variants as R
+use Rattle.text_runs.specs.declared.Told.{Told}
+use Rattle.text_runs.proofs.Answers.{reads-one}
 use Rattle.classes.specs.Claims as C
 use Rattle.classes.specs.Claims.{clashing}
 use Rattle.classes.specs.declared.Classes.{Classes}

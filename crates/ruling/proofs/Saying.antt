@@ -27,10 +27,10 @@ use Rattle.runs.specs.Fit.{FitContext, FitClause}
 use Rattle.runs.specs.Limits.{mostRows, mostStatements, rowSize, patternSize, argPlaces}
 use Rattle.runs.specs.Runs.{rowCount, saidCount, patternCount, literalCount, countIn, patternKindIn, headIn, patternCountIn}
 use Rattle.runs.proofs.Saying.{length-rows, length-statements, length-patterns, length-literals}
-use Rattle.told.specs.Numbers.{rowNumbers, patternNumbers, numbersOf}
-use Rattle.told.specs.Reads.{readOf, Holds, Reads}
-use Rattle.told.specs.declared.Told.{Told}
-use Rattle.told.proofs.Saying.{told-kept, says-context, says-clause}
+use Rattle.text_runs.specs.Numbers.{rowNumbers, patternNumbers, numbersOf}
+use Rattle.text_runs.specs.Reads.{readOf, Holds, Reads}
+use Rattle.text_runs.specs.declared.Told.{Told}
+use Rattle.text_runs.proofs.Saying.{told-kept, says-context, says-clause}
 use Rattle.ruling.specs.Claims.{rowsIn, saidIn, patternsIn, literalsIn, contextIn, clauseIn}
 
 -- ---- a run of pieces

@@ -19,8 +19,8 @@ use Rattle.runs.specs.Limits.{mostRows}
 use Rattle.runs.specs.Runs.{contextOf, clauseOf}
 use Rattle.replies.specs.Told.{meant}
 use Rattle.replies.specs.declared.Refusal.{Refusal}
-use Rattle.told.specs.Reads.{Reads}
-use Rattle.told.specs.declared.Told.{Told}
+use Rattle.text_runs.specs.Reads.{Reads}
+use Rattle.text_runs.specs.declared.Told.{Told}
 use Rattle.classes.specs.Claims.{clashing}
 use Rattle.ruling.specs.declared.Answer.{Answer}
 use Rattle.ruling.specs.declared.Answer.the-variants as A

@@ -5,8 +5,8 @@
 use mathlib.Core.Path.{_≡_}
 use Prim.Native.Nat.{ℕ, zero, suc, _+_, _<_}
 use Rattle.runs.specs.Limits.{mostStatements}
-use Rattle.told.specs.declared.Answer as T
-use Rattle.told.specs.declared.Answer.the-variants as R
+use Rattle.text_runs.specs.declared.Answer as T
+use Rattle.text_runs.specs.declared.Answer.the-variants as R
 use Rattle.classes.specs.declared.Contradiction.{Contradiction}
 use Rattle.classes.specs.declared.Contradiction.the-variants.{First, Clear}
 use Rattle.ruling.specs.declared.Answer.{Answer}

@@ -4,7 +4,7 @@ use classes::Contradiction;
 use replies::Refusal;
 use runs::limits::LITERAL;
 use runs::limits::ROWS;
-use told::Told;
+use text_runs::Told;
 ghost use mathlib.Core.Path.{_≡_};
 ghost use Prim.Native.Nat.{_+_, _≤_, _<_};
 ghost use lib.ListN.{length, take};
@@ -108,13 +108,13 @@ pub fn judge(literals: usize, clash: Contradiction) -> Answer
 }
 
 // The reader's refusal, then 8, then 9.
-fn answer_for(first: told::Answer, literals: usize, clash: Contradiction) -> Answer
+fn answer_for(first: text_runs::Answer, literals: usize, clash: Contradiction) -> Answer
     requires { ⌜ Low clash ⌝ }
     ensures { λ r. ⌜ r ≡ ruledBy first literals clash ⌝ }
 {
     match first {
-        told::Answer::Refused(x) => Answer::Refused(x),
-        told::Answer::Taken => judge(literals, clash),
+        text_runs::Answer::Refused(x) => Answer::Refused(x),
+        text_runs::Answer::Taken => judge(literals, clash),
     }
 }
 

@@ -8,8 +8,8 @@ use mathlib.Core.Path.{_≡_, _∙_}
 use Prim.Native.Nat.{ℕ, _+_}
 use borrow.Author.Needs.{needs}
 use borrow.Author.Tests.{eq-eqb, ne-eqb}
-use Rattle.frames.specs.declared.entries.Pair.{Pair}
-use Rattle.frames.specs.declared.entries.Term.{Term}
+use Rattle.text_lines.specs.declared.entries.Pair.{Pair}
+use Rattle.text_lines.specs.declared.entries.Term.{Term}
 use Rattle.runs.specs.Runs.{put}
 use Rattle.text_reader.specs.Adding.{termNumbers, pairNumbers, variableNumbers, NoteMade, PieceAdded}
 use Rattle.text_reader.specs.State.{passedTo, tallyOf, afterRow, afterSaid, afterVariable, afterSymbol, afterLiteral}

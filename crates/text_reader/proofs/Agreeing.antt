@@ -20,7 +20,7 @@ use borrow.Author.Tests.{ne-eqb, eq-eqb, eqb-true, eqb-false}
 use Rattle.meaning.specs.Context.{Row}
 use Rattle.meaning.specs.Rules.{Pattern, variable, apply}
 use Rattle.meaning.specs.Text.{Read, nothingRead, row, pattern, put, putContext, putClause, rowsOf, patternsOf, rowsAgree, patternsAgree, countsAgree}
-use Rattle.frames.specs.Choice.{choose}
+use Rattle.text_lines.specs.Choice.{choose}
 use Rattle.text_reader.specs.Agree.{clashOf, clashesIn, Noted, Used}
 
 module _ (g m f k : ℕ) where

@@ -10,12 +10,12 @@ use native.Mathlib.Omega.{arith}
 use lib.ListN.{length, replicate, length-replicate}
 use borrow.Author.Needs.{needs}
 use Rattle.meaning.specs.Columns.{pad}
-use Rattle.told.specs.Numbers.{numbersOf}
-use Rattle.told.specs.Reads.{Reads}
-use Rattle.told.specs.declared.Answer.the-variants as A
-use Rattle.told.specs.declared.Filled.{Filled}
+use Rattle.text_runs.specs.Numbers.{numbersOf}
+use Rattle.text_runs.specs.Reads.{Reads}
+use Rattle.text_runs.specs.declared.Answer.the-variants as A
+use Rattle.text_runs.specs.declared.Filled.{Filled}
 use Rattle.replies.specs.declared.Refusal.{Refusal}
-use Rattle.told.specs.declared.Told.{Told}
+use Rattle.text_runs.specs.declared.Told.{Told}
 use Rattle.text_reader.specs.Lines.{Ready, Taken, Ends, toldRefused}
 use Rattle.text_reader.specs.State.{Within, numbersIn}
 use Rattle.text_reader.specs.declared.lines.Step.{Step}

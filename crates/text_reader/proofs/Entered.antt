@@ -10,11 +10,11 @@ use mathlib.Core.Path.{_≡_}
 use Prim.Native.Nat.{ℕ, _+_, _<_}
 use lib.ListN.{length}
 use borrow.Author.Needs.{needs}
-use Rattle.frames.specs.Lines.{Legible, LineAt}
-use Rattle.frames.specs.declared.entries.Pair.{Pair}
-use Rattle.frames.specs.declared.entries.Term.{Term}
-use Rattle.frames.specs.declared.lines.Line.{Line}
-use Rattle.frames.specs.declared.lines.Line.the-variants as L
+use Rattle.text_lines.specs.Lines.{Legible, LineAt}
+use Rattle.text_lines.specs.declared.entries.Pair.{Pair}
+use Rattle.text_lines.specs.declared.entries.Term.{Term}
+use Rattle.text_lines.specs.declared.lines.Line.{Line}
+use Rattle.text_lines.specs.declared.lines.Line.the-variants as L
 use Rattle.runs.specs.Limits.{rowSize, saidSize, patternSize, literalSize}
 use Rattle.text_reader.specs.Adding.{termNumbers, pairNumbers, variableNumbers, NoteFits, NoteMade, PieceFits, PieceAdded}
 use Rattle.text_reader.specs.Agree.{Noted}

@@ -17,15 +17,15 @@ use Rattle.meaning.specs.Rules.{variable, apply, Literal, equal, unequal}
 use Rattle.meaning.specs.Text as M
 use Rattle.meaning.specs.Text.{Read, contextRow, equation, difference, variablePattern, symbolPattern, equalLiteral, unequalLiteral, row, statement, pattern, literal, fieldAt, entryOf, known, isListed, listedAs, kinds, sized, ranked, rankOf, refers, noRow, firstFailing, isNowhere, namedBy, namesFrom, tableOf, agrees, rowsOf, patternsOf, countsAgree, testsOf, firstFault}
 use Rattle.meaning.specs.Columns.{pad}
-use Rattle.frames.specs.Choice.{choose}
-use Rattle.frames.specs.Lines.{Legible, valueAt}
-use Rattle.frames.specs.Entries.{TermLine}
-use Rattle.frames.specs.declared.entries.Paired.{Paired}
-use Rattle.frames.specs.declared.entries.Paired.the-variants as P
-use Rattle.frames.specs.declared.entries.Termed.{Termed}
-use Rattle.frames.specs.declared.entries.Termed.the-variants as T
-use Rattle.frames.proofs.Fields.{field-at}
-use Rattle.told.specs.Numbers.{saidNumbers, literalNumbers}
+use Rattle.text_lines.specs.Choice.{choose}
+use Rattle.text_lines.specs.Lines.{Legible, valueAt}
+use Rattle.text_lines.specs.Entries.{TermLine}
+use Rattle.text_lines.specs.declared.entries.Paired.{Paired}
+use Rattle.text_lines.specs.declared.entries.Paired.the-variants as P
+use Rattle.text_lines.specs.declared.entries.Termed.{Termed}
+use Rattle.text_lines.specs.declared.entries.Termed.the-variants as T
+use Rattle.text_lines.proofs.Fields.{field-at}
+use Rattle.text_runs.specs.Numbers.{saidNumbers, literalNumbers}
 use Rattle.runs.specs.Limits.{mostRows, mostEquations, mostDifferences, mostPatterns, mostLiterals}
 use Rattle.text_reader.specs.Entries.{pairIn, asSaid, asLiteral, variableIn, termIn, asRow, asSymbol, rowIn, symbolIn}
 use Rattle.text_reader.specs.Kinds.{Looked, fieldsAt, SizeIs, LongBy, meantKind, kindRank}

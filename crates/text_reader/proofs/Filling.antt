@@ -14,9 +14,9 @@ use lib.ListN.{length, drop, replicate, length-append, length-replicate, length-
 use lib.Seq.{take-at, drop-append-add, length-take-le}
 use Rattle.meaning.specs.Columns.{pad}
 use Rattle.runs.specs.Runs.{put}
-use Rattle.told.specs.Numbers.{numbersOf}
-use Rattle.told.specs.Reads.{Holds}
-use Rattle.told.proofs.Saying.{numbers-snoc}
+use Rattle.text_runs.specs.Numbers.{numbersOf}
+use Rattle.text_runs.specs.Reads.{Holds}
+use Rattle.text_runs.proofs.Saying.{numbers-snoc}
 use Rattle.text_reader.specs.Lines.{Filled}
 
 pub put-length : (size : ℕ) (run : List ℕ) (n : ℕ) (piece run′ : List ℕ) → length piece ≡ size → n * size + size ≤ length run → run′ ≡ put size run n piece

@@ -16,9 +16,9 @@ use borrow.Author.Needs.{needs}
 use borrow.Author.Tests.{lt-ltb, le-ltb, ltb-true, ltb-false, eq-eqb, ne-eqb, eqb-true, eqb-false}
 use Rattle.meaning.specs.Text as M
 use Rattle.meaning.specs.Text.{contextRow, equation, difference, variablePattern, symbolPattern, equalLiteral, unequalLiteral, fieldAt, isListed, listedAs, sized, sizeOf}
-use Rattle.frames.specs.Choice.{choose}
-use Rattle.frames.specs.Lines.{Legible, valueAt}
-use Rattle.frames.proofs.Fields.{fields-count, field-at}
+use Rattle.text_lines.specs.Choice.{choose}
+use Rattle.text_lines.specs.Lines.{Legible, valueAt}
+use Rattle.text_lines.proofs.Fields.{fields-count, field-at}
 use Rattle.text_reader.specs.Kinds.{Looked, fieldsAt, fixedSize, termSize, LongBy, SizeIs, meantKind}
 use Rattle.text_reader.specs.declared.kinds.Kind.{Kind}
 use Rattle.text_reader.specs.declared.kinds.Kind.the-variants.{ContextRow, Equation, Difference, VariablePattern, SymbolPattern, EqualLiteral, UnequalLiteral}

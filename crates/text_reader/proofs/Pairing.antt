@@ -13,12 +13,12 @@ use lib.Dec.{ltb}
 use lib.ListN.{length}
 use Rattle.meaning.specs.Text as M
 use Rattle.meaning.specs.Text.{Kind, Entry, Read, narrow, fieldAt, entryOf, known, sized, ranked, refers, noRow, namedBy, tableOf, agrees, Spot, firstFailing, isNowhere, spotOr, namesFrom, badField, offsetOf, testsOf, firstFault}
-use Rattle.frames.specs.Choice.{choose}
-use Rattle.frames.specs.Lines.{Legible}
-use Rattle.frames.specs.Entries.{foundIn, pairBy}
-use Rattle.frames.specs.declared.entries.Paired.{Paired}
-use Rattle.frames.specs.declared.entries.Paired.the-variants.{Is, Refused}
-use Rattle.frames.proofs.Fields.{field-at}
+use Rattle.text_lines.specs.Choice.{choose}
+use Rattle.text_lines.specs.Lines.{Legible}
+use Rattle.text_lines.specs.Entries.{foundIn, pairBy}
+use Rattle.text_lines.specs.declared.entries.Paired.{Paired}
+use Rattle.text_lines.specs.declared.entries.Paired.the-variants.{Is, Refused}
+use Rattle.text_lines.proofs.Fields.{field-at}
 use Rattle.text_reader.specs.Entries.{pairIn}
 use Rattle.text_reader.specs.Kinds.{fieldsAt}
 use Rattle.text_reader.specs.Lines.{kindIn, entryIn, faultIn, offsetFor, Stopped}

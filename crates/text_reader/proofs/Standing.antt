@@ -24,14 +24,14 @@ use Rattle.meaning.specs.Columns.{kindOf, patternKind, headOf, argsIn}
 use Rattle.meaning.specs.Text as M
 use Rattle.meaning.specs.Text.{Read, nothingRead, read, readLines, linesOf, linesFrom, narrow, row, statement, pattern, literal, put, putContext, putClause, rankOf, rowsOf, patternsOf, ledgerOf}
 use Rattle.meaning.proofs.Logic.{and-true-left}
-use Rattle.frames.specs.Lines.{Legible, Illegible, LineAt}
-use Rattle.frames.specs.declared.entries.Pair.{Pair}
-use Rattle.frames.specs.declared.entries.Term.{Term}
-use Rattle.frames.specs.declared.lines.Line.{Line}
-use Rattle.frames.specs.declared.lines.Line.the-variants as L
+use Rattle.text_lines.specs.Lines.{Legible, Illegible, LineAt}
+use Rattle.text_lines.specs.declared.entries.Pair.{Pair}
+use Rattle.text_lines.specs.declared.entries.Term.{Term}
+use Rattle.text_lines.specs.declared.lines.Line.{Line}
+use Rattle.text_lines.specs.declared.lines.Line.the-variants as L
 use Rattle.runs.specs.Limits.{mostRows, mostEquations, mostDifferences, mostStatements, mostPatterns, mostLiterals}
 use Rattle.runs.specs.Runs as R
-use Rattle.told.specs.Numbers.{rowNumbers, saidNumbers, patternNumbers, literalNumbers}
+use Rattle.text_runs.specs.Numbers.{rowNumbers, saidNumbers, patternNumbers, literalNumbers}
 use Rattle.replies.specs.declared.Refusal.{Refusal}
 use Rattle.text_reader.specs.Adding.{termNumbers, pairNumbers, variableNumbers, NoteFits, NoteMade, PieceFits, PieceAdded}
 use Rattle.text_reader.specs.Agree.{Noted, Used}

@@ -16,13 +16,13 @@ use borrow.Author.Tests.{ltb-true, ltb-false, le-leb, lt-leb}
 use Rattle.meaning.specs.Text as M
 use Rattle.meaning.specs.Text.{Kind, Entry, Read, narrow, symbolIn, entryOf, known, sized, ranked, refers, noRow, namedBy, tableOf, agrees, Spot, nowhere, firstFailing, isNowhere, spotOr, namesFrom, badField, offsetOf, testsOf, firstFault}
 use Rattle.meaning.specs.Columns.{pad}
-use Rattle.frames.specs.Choice.{choose}
-use Rattle.frames.specs.Lines.{Legible, valueAt}
-use Rattle.frames.specs.Entries.{foundIn, argumentOf, symbolAt, termBy, termFrom}
-use Rattle.frames.specs.declared.entries.Term.{Term}
-use Rattle.frames.specs.declared.entries.Termed.{Termed}
-use Rattle.frames.specs.declared.entries.Termed.the-variants.{Is, Refused}
-use Rattle.frames.proofs.Fields.{fields-count, field-at}
+use Rattle.text_lines.specs.Choice.{choose}
+use Rattle.text_lines.specs.Lines.{Legible, valueAt}
+use Rattle.text_lines.specs.Entries.{foundIn, argumentOf, symbolAt, termBy, termFrom}
+use Rattle.text_lines.specs.declared.entries.Term.{Term}
+use Rattle.text_lines.specs.declared.entries.Termed.{Termed}
+use Rattle.text_lines.specs.declared.entries.Termed.the-variants.{Is, Refused}
+use Rattle.text_lines.proofs.Fields.{fields-count, field-at}
 use Rattle.text_reader.specs.Agree.{clashesIn}
 use Rattle.text_reader.specs.Entries.{agreeing, termIn}
 use Rattle.text_reader.specs.Kinds.{fieldsAt}

@@ -17,9 +17,9 @@ use lib.ListN.{drop}
 use borrow.Author.Tests.{lt-ltb, eq-eqb}
 use Rattle.meaning.specs.Text as M
 use Rattle.meaning.specs.Text.{Read, faulty, readLines, narrow, linesOf, legible, isNowhere, nonDigit, known, sized, ranked, testsOf, firstFault, offsetOf, put}
-use Rattle.frames.specs.Lines.{Legible, Illegible}
-use Rattle.frames.proofs.Breaks.{all-nowhere}
-use Rattle.frames.proofs.Scan.{part, part-length, part-digits, run-lines}
+use Rattle.text_lines.specs.Lines.{Legible, Illegible}
+use Rattle.text_lines.proofs.Breaks.{all-nowhere}
+use Rattle.text_lines.proofs.Scan.{part, part-length, part-digits, run-lines}
 use Rattle.text_reader.specs.Kinds.{fieldsAt}
 use Rattle.text_reader.specs.Lines.{lineOf, kindIn, entryIn, faultIn, offsetFor, Stopped}
 

@@ -11,16 +11,16 @@ use Prim.Native.Nat.{ℕ, _+_, _<_, _≤_}
 use lib.Dec.{ltb}
 use borrow.Author.Needs.{needs}
 use borrow.Author.Tests.{lt-ltb, le-ltb, ne-eqb, not-true, not-false}
-use Rattle.frames.specs.Lines.{valueAt}
-use Rattle.frames.specs.Entries.{foundIn, termFrom}
-use Rattle.frames.specs.declared.entries.Found.{Found}
-use Rattle.frames.specs.declared.entries.Found.the-variants as F
-use Rattle.frames.specs.declared.entries.Pair.{Pair}
-use Rattle.frames.specs.declared.entries.Paired.{Paired}
-use Rattle.frames.specs.declared.entries.Paired.the-variants as P
-use Rattle.frames.specs.declared.entries.Term.{Term}
-use Rattle.frames.specs.declared.entries.Termed.{Termed}
-use Rattle.frames.specs.declared.entries.Termed.the-variants as T
+use Rattle.text_lines.specs.Lines.{valueAt}
+use Rattle.text_lines.specs.Entries.{foundIn, termFrom}
+use Rattle.text_lines.specs.declared.entries.Found.{Found}
+use Rattle.text_lines.specs.declared.entries.Found.the-variants as F
+use Rattle.text_lines.specs.declared.entries.Pair.{Pair}
+use Rattle.text_lines.specs.declared.entries.Paired.{Paired}
+use Rattle.text_lines.specs.declared.entries.Paired.the-variants as P
+use Rattle.text_lines.specs.declared.entries.Term.{Term}
+use Rattle.text_lines.specs.declared.entries.Termed.{Termed}
+use Rattle.text_lines.specs.declared.entries.Termed.the-variants as T
 use Rattle.text_reader.specs.Agree.{clashesIn}
 use Rattle.text_reader.specs.Entries.{pairIn, asSaid, asLiteral, variableIn, termIn, asRow, asSymbol}
 use Rattle.text_reader.specs.declared.entries.Entry.the-variants.{Row, Said, Variable, Symbol, Literal, Refused}

@@ -7,8 +7,8 @@ use mathlib.Core.List.{List, [], _∷_}
 use mathlib.Core.Path.{_≡_}
 use Prim.Native.Nat.{ℕ, _+_, _*_, _≤_, _<_}
 use lib.ListN.{length, set}
-use Rattle.frames.specs.declared.entries.Pair.{Pair}
-use Rattle.frames.specs.declared.entries.Term.{Term}
+use Rattle.text_lines.specs.declared.entries.Pair.{Pair}
+use Rattle.text_lines.specs.declared.entries.Term.{Term}
 use Rattle.runs.specs.Runs.{put}
 use Rattle.text_reader.specs.declared.lines.Step.{Step}
 use Rattle.text_reader.specs.declared.lines.Step.the-variants.{Next}

@@ -9,7 +9,7 @@ use Prim.Native.Nat.{ℕ, zero, suc, _+_, _≤_}
 use lib.Dec.{eqb}
 use lib.ListN.{length, getD}
 use Rattle.meaning.specs.Text.{Read, countsAgree}
-use Rattle.frames.specs.Choice.{choose}
+use Rattle.text_lines.specs.Choice.{choose}
 
 unfoldable pub clashOf : ℕ → ℕ → ℕ → ℕ → ℕ
 clashOf g m f k = choose (eqb g f) (choose (eqb m k) 0 1) 0

@@ -7,13 +7,13 @@ use mathlib.Core.Bool.{Bool}
 use mathlib.Core.List.{List}
 use Prim.Native.Nat.{ℕ, _+_}
 use lib.Dec.{eqb, ltb}
-use Rattle.frames.specs.Choice.{choose}
-use Rattle.frames.specs.Lines.{valueAt}
-use Rattle.frames.specs.Entries.{foundIn, pairBy, termFrom}
-use Rattle.frames.specs.declared.entries.Paired.{Paired}
-use Rattle.frames.specs.declared.entries.Paired.the-variants as P
-use Rattle.frames.specs.declared.entries.Termed.{Termed}
-use Rattle.frames.specs.declared.entries.Termed.the-variants as T
+use Rattle.text_lines.specs.Choice.{choose}
+use Rattle.text_lines.specs.Lines.{valueAt}
+use Rattle.text_lines.specs.Entries.{foundIn, pairBy, termFrom}
+use Rattle.text_lines.specs.declared.entries.Paired.{Paired}
+use Rattle.text_lines.specs.declared.entries.Paired.the-variants as P
+use Rattle.text_lines.specs.declared.entries.Termed.{Termed}
+use Rattle.text_lines.specs.declared.entries.Termed.the-variants as T
 use Rattle.runs.specs.Limits.{mostRows, mostPatterns, mostVariables, argPlaces}
 use Rattle.text_reader.specs.Agree.{clashesIn}
 use Rattle.text_reader.specs.declared.entries.Entry.{Entry}

@@ -14,8 +14,8 @@ use lib.Dec.{eqb, ltb}
 use lib.ListN.{take, drop}
 use Rattle.meaning.specs.Text as M
 use Rattle.meaning.specs.Text.{contextRow, equation, difference, variablePattern, symbolPattern, equalLiteral, unequalLiteral, fields, isListed, listedAs, kinds, sized}
-use Rattle.frames.specs.Choice.{choose}
-use Rattle.frames.specs.Lines.{valueAt}
+use Rattle.text_lines.specs.Choice.{choose}
+use Rattle.text_lines.specs.Lines.{valueAt}
 use Rattle.text_reader.specs.declared.kinds.Kind.{Kind}
 use Rattle.text_reader.specs.declared.kinds.Kind.the-variants.{ContextRow, Equation, Difference, VariablePattern, SymbolPattern, EqualLiteral, UnequalLiteral}
 use Rattle.text_reader.specs.declared.kinds.Listed.{Listed}

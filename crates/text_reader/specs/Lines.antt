@@ -15,12 +15,12 @@ use Prim.Native.Nat.{ℕ, _+_, _-_, _*_, _<_, _≤_}
 use lib.ListN.{length, take, drop, replicate}
 use Rattle.meaning.specs.Text as M
 use Rattle.meaning.specs.Text.{Read, row, statement, pattern, literal, listedAs, kinds, entryOf, fieldAt, testsOf, firstFault, offsetOf, narrow, readLines, read, linesOf, faulty, taken, rowsOf, patternsOf}
-use Rattle.frames.specs.Lines.{Legible}
+use Rattle.text_lines.specs.Lines.{Legible}
 use Rattle.runs.specs.Limits.{mostRows, mostStatements, mostPatterns, mostLiterals, rowSize, saidSize, patternSize, literalSize}
-use Rattle.told.specs.Numbers.{rowNumbers, saidNumbers, patternNumbers, literalNumbers, numbersOf}
-use Rattle.told.specs.declared.Answer.the-variants.{Refused}
+use Rattle.text_runs.specs.Numbers.{rowNumbers, saidNumbers, patternNumbers, literalNumbers, numbersOf}
+use Rattle.text_runs.specs.declared.Answer.the-variants.{Refused}
 use Rattle.replies.specs.declared.Refusal.{Refusal}
-use Rattle.told.specs.declared.Told.{Told}
+use Rattle.text_runs.specs.declared.Told.{Told}
 use Rattle.text_reader.specs.Adding.{termNumbers, pairNumbers, variableNumbers}
 use Rattle.text_reader.specs.Agree.{Used}
 use Rattle.text_reader.specs.Kinds.{fieldsAt}

@@ -8,9 +8,9 @@
 use mathlib.Core.Path.{_≡_}
 use Prim.Native.Nat.{ℕ, suc, _+_, _*_, _≤_}
 use lib.Dec.{eqb}
-use Rattle.frames.specs.Choice.{choose}
+use Rattle.text_lines.specs.Choice.{choose}
 use Rattle.runs.specs.Limits.{mostRows, mostEquations, mostDifferences, mostPatterns, mostLiterals, rowSize, saidSize, patternSize, literalSize}
-use Rattle.told.specs.declared.Filled.{Filled}
+use Rattle.text_runs.specs.declared.Filled.{Filled}
 use Rattle.text_reader.specs.declared.state.State.{State}
 
 abbrev pub startState : State

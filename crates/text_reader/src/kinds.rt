@@ -1,8 +1,8 @@
 // The kinds of line: their numbers, lengths and ranks. A new kind has an entry in each look-up here.
 use casts::usize_of_u16;
-use frames::lines::field;
+use text_lines::lines::field;
 ghost use mathlib.Core.Path.{_≡_};
-ghost use Rattle.frames.specs.Lines.{Legible};
+ghost use Rattle.text_lines.specs.Lines.{Legible};
 ghost use Rattle.text_reader.specs.Kinds.{Looked, fixedSize, termSize, SizeIs, meantKind, kindRank};
 
 pub(crate) enum Kind {

@@ -20,11 +20,11 @@ use runs::limits::SAID;
 use runs::limits::SAID_RUN;
 use state::State;
 use state::start;
-use told::Answer;
-use told::Filled;
-use told::Told;
+use text_runs::Answer;
+use text_runs::Filled;
+use text_runs::Told;
 ghost use mathlib.Core.Path.{_≡_};
-ghost use Rattle.told.specs.Reads.{Reads};
+ghost use Rattle.text_runs.specs.Reads.{Reads};
 ghost use Rattle.text_reader.specs.Lines.{Ready, Ends, toldRefused};
 ghost use Rattle.text_reader.specs.State.{Within, numbersIn};
 

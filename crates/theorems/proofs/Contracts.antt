@@ -19,12 +19,12 @@ use Rattle.replies.specs.declared.Outcome.{Outcome}
 use Rattle.replies.specs.declared.Outcome.the-variants.{Breach, Clear, Refused}
 use Rattle.replies.specs.declared.Reply.{Reply}
 use Rattle.reply_lines.specs.declared.Line.{Line}
-use Rattle.printing.specs.Claims.{PrintsFound}
-use Rattle.intake.specs.Machine.{memory, fresh, fed}
-use Rattle.intake.proofs.Standing.{Parsed, stands-start, stands-fed, parsed}
-use Rattle.verifying.specs.Replies.{VerifyPrints}
+use Rattle.outputs.specs.Claims.{PrintsFound}
+use Rattle.grounds_intake.specs.Machine.{memory, fresh, fed}
+use Rattle.grounds_intake.proofs.Standing.{Parsed, stands-start, stands-fed, parsed}
+use Rattle.grounds_replies.specs.Replies.{VerifyPrints}
 use Rattle.reply_lines.specs.Prints.{Prints}
-use Rattle.verifying.proofs.Verifying.{verify-prints}
+use Rattle.grounds_replies.proofs.Verifying.{verify-prints}
 use Rattle.theorems.specs.Said.{replyBy, Find, finderOf, shownIn, Spaces, ended, PrintsAfter}
 
 -- ---- the finder

@@ -14,30 +14,30 @@ use Rattle.replies.specs.declared.Outcome.the-variants.{Breach}
 use Rattle.replies.specs.declared.Reply.{Reply}
 use Rattle.normaliser.specs.declared.Written.{Written}
 use Rattle.reply_lines.specs.declared.Line.{Line}
-use Rattle.printing.specs.Claims.{PrintsFound, PrintsNormal}
-use Rattle.printing.specs.declared.Parts.{Parts}
-use Rattle.printing.proofs.Outputs.{output-prints}
+use Rattle.outputs.specs.Claims.{PrintsFound, PrintsNormal}
+use Rattle.outputs.specs.declared.Parts.{Parts}
+use Rattle.outputs.proofs.Outputs.{output-prints}
 use Rattle.hunting.specs.Laid.{contextIn, ruleIn}
 use Rattle.listing.specs.Filling.{Pieces}
 use Rattle.listing.specs.Opening as Listing
 use Rattle.listing.specs.declared.opening.Opened.{Opened as ListOpened}
 use Rattle.listing.proofs.Output.{opened-prints, opened-ends}
-use Rattle.verifier.specs.declared.Answer.the-variants.{Accepted}
-use Rattle.verifier.specs.declared.Conclusions.{Conclusions}
-use Rattle.judging.specs.Judgements.{BreachOf}
-use Rattle.judging.specs.Claims.{JudgesTo}
-use Rattle.judging.specs.declared.Outcome.{Outcome as Judgement}
-use Rattle.judging.specs.declared.Outcome.the-variants.{Judged}
-use Rattle.judging.proofs.Answers as Judging
+use Rattle.grounds_verdict.specs.declared.Answer.the-variants.{Accepted}
+use Rattle.grounds_verdict.specs.declared.Conclusions.{Conclusions}
+use Rattle.grounds_judgement.specs.Judgements.{BreachOf}
+use Rattle.grounds_judgement.specs.Claims.{JudgesTo}
+use Rattle.grounds_judgement.specs.declared.Outcome.{Outcome as Judgement}
+use Rattle.grounds_judgement.specs.declared.Outcome.the-variants.{Judged}
+use Rattle.grounds_judgement.proofs.Answers as Judging
 use Rattle.grounds_steps.specs.Steps.{mostSteps}
 use Rattle.writer.specs.Claims.{Writes as WritesGrounds}
 use Rattle.writer.specs.declared.Grounds.{Grounds}
 use Rattle.writer.proofs.Answers.{writes-accepted}
-use Rattle.framing.specs.Opening as Framing
-use Rattle.framing.specs.Filling.{framesFrom}
-use Rattle.framing.specs.declared.opening.Opened.{Opened as GroundsOpened}
-use Rattle.framing.proofs.Output.{opened-found, opened-alone}
-use Rattle.verifying.specs.Replies.{VerifyPrints}
+use Rattle.grounds_lines.specs.Opening as Framing
+use Rattle.grounds_lines.specs.Filling.{framesFrom}
+use Rattle.grounds_lines.specs.declared.opening.Opened.{Opened as GroundsOpened}
+use Rattle.grounds_lines.proofs.Output.{opened-found, opened-alone}
+use Rattle.grounds_replies.specs.Replies.{VerifyPrints}
 use Rattle.theorems.specs.Said.{Find, finderOf, Normalise, normaliserOf, shownIn, Spaces, ended, PrintsAfter}
 use Rattle.theorems.proofs.Contracts.{finds-rightly, found-shown, verify-shown}
 
@@ -64,7 +64,7 @@ pub list-ends : (input : List ℕ) (o : ListOpened) → Listing.Opens input o �
     → (out : List ℕ) × Pieces (contextIn (o .laid)) (o .laid .table) (ruleIn (o .laid)) room 0 (o .state) out
 list-ends = opened-ends
 
--- Grounds that `judging::judge` accepts, whoever wrote them, show a breach of the text's rule.
+-- Grounds that `grounds_judgement::judge` accepts, whoever wrote them, show a breach of the text's rule.
 pub accepted-breach : (text places : List ℕ) (steps : List (List ℕ)) (d : Conclusions) → JudgesTo text places steps d (Judged Accepted) → BreachOf narrow text places
 accepted-breach text places steps d j = Judging.accepted-breach _ _ _ narrow text (j .judges)
 

@@ -4,7 +4,7 @@
 --     finderOf, normaliserOf   such a function as the demands speak of it
 --     shownIn                  the bytes of a line that are printed
 --     Spaces, ended            the spaces that are lent for `verify`, and what they hold after an input
---     PrintsAfter              the contract of `verifying::reply` then
+--     PrintsAfter              the contract of `grounds_replies::reply` then
 -- Assumes nothing.
 use mathlib.Core.List.{List}
 use Prim.Native.Nat.{ℕ, _≤_}
@@ -21,9 +21,9 @@ use Rattle.replies.specs.declared.Reply.{Reply}
 use Rattle.normaliser.specs.Claims.{writtenBy}
 use Rattle.normaliser.specs.declared.Written.{Written}
 use Rattle.reply_lines.specs.declared.Line.{Line}
-use Rattle.intake.specs.Machine.{Memory, memory, fresh, fed, finished}
-use Rattle.verifying.specs.Replies.{stepLimit}
-use Rattle.verifying.specs.Claims.{PrintsFor}
+use Rattle.grounds_intake.specs.Machine.{Memory, memory, fresh, fed, finished}
+use Rattle.grounds_replies.specs.Replies.{stepLimit}
+use Rattle.grounds_replies.specs.Claims.{PrintsFor}
 
 abbrev pub replyBy : Outcome → List ℕ → M.Reply
 replyBy (Breach n) places = breach (take n places)

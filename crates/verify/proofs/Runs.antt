@@ -20,16 +20,16 @@ use borrow.Author.Tests.{lt-ltb, le-ltb, ltb-false}
 use lib.Dec.{ltb}
 use lib.ListN.{length, take, replicate, length-replicate, length-append}
 use Rattle.meaning.specs.Text.{narrow}
-use Rattle.intake.specs.Machine.{Memory, memory, fresh, taken, fed, finished, Becomes, EndsBy}
-use Rattle.intake.specs.declared.Parser.{Parser}
-use Rattle.intake.proofs.Ways.{fed-alike}
-use Rattle.intake.proofs.Standing.{Stands, stands-start, stands-fed, Parsed, parsed}
+use Rattle.grounds_intake.specs.Machine.{Memory, memory, fresh, taken, fed, finished, Becomes, EndsBy}
+use Rattle.grounds_intake.specs.declared.Parser.{Parser}
+use Rattle.grounds_intake.proofs.Ways.{fed-alike}
+use Rattle.grounds_intake.proofs.Standing.{Stands, stands-start, stands-fed, Parsed, parsed}
 use Rattle.meaning.specs.Replies.{inputLimit}
-use Rattle.verifying.specs.Replies.{stepLimit, VerifyPrints}
-use Rattle.verifying.specs.Claims.{PrintsFor}
+use Rattle.grounds_replies.specs.Replies.{stepLimit, VerifyPrints}
+use Rattle.grounds_replies.specs.Claims.{PrintsFor}
 use Rattle.reply_lines.specs.Prints.{Prints}
 use Rattle.reply_lines.specs.declared.Line.{Line}
-use Rattle.verifying.proofs.Verifying.{verify-prints}
+use Rattle.grounds_replies.proofs.Verifying.{verify-prints}
 use Rattle.channels.specs.declared.input.Got.{Got}
 use Rattle.channels.specs.declared.input.Got.the-variants as G
 use Rattle.channels.proofs.Fronts.{front-fits, front-taken, first-count}

@@ -14,9 +14,9 @@ use lib.Dec.{ltb}
 use lib.ListN.{length}
 use Rattle.meaning.specs.Text.{narrow}
 use Rattle.meaning.specs.Replies.{inputLimit}
-use Rattle.intake.specs.Machine.{Memory, memory, fresh, fed}
-use Rattle.intake.specs.declared.Parser.{Parser}
-use Rattle.verifying.specs.Replies.{stepLimit, VerifyPrints}
+use Rattle.grounds_intake.specs.Machine.{Memory, memory, fresh, fed}
+use Rattle.grounds_intake.specs.declared.Parser.{Parser}
+use Rattle.grounds_replies.specs.Replies.{stepLimit, VerifyPrints}
 use Rattle.reply_lines.specs.Prints.{Prints}
 use Rattle.reply_lines.specs.declared.Line.{Line}
 use Rattle.channels.specs.Taking.{pieceSpace}

@@ -9,14 +9,14 @@ use channels::output::put;
 use channels::telling::FAILED;
 use channels::telling::report;
 use channels::telling::tell;
+use grounds_intake::Parser;
 use grounds_steps::STEPS;
 use grounds_steps::WORDS;
-use intake::Parser;
 use replies::INPUT_LIMIT;
 use reply_lines::Line;
 ghost use mathlib.Core.Path.{_≡_};
 ghost use Prim.Native.Nat.{_<_};
-ghost use Rattle.intake.specs.Machine.{memory, fresh};
+ghost use Rattle.grounds_intake.specs.Machine.{memory, fresh};
 ghost use Rattle.channels.specs.Taking.{Read};
 ghost use Rattle.channels.specs.Sending.{Delivers};
 ghost use Rattle.verify.specs.Runs.{turnOf, leftBy, TakesPiece, TakesAll, Spaces, Ready, Verified, Verifies};
@@ -56,7 +56,7 @@ fn take_in(p: Parser, got: Got, piece: &[u8], text: &mut [u8], steps: &mut [[u64
     ensures { λ r. ⌜ TakesPiece (memory p (now (text .entry)) (now (steps .entry))) r (now (text .exit)) (now (steps .exit)) ⌝ }
 {
     let turn = turn_after(got);
-    let parser = intake::feed(p, piece, text, steps);
+    let parser = grounds_intake::feed(p, piece, text, steps);
     Taken { parser, turn }
 }
 
@@ -92,7 +92,7 @@ fn left(turn: Turn, turns: usize) -> usize
 fn take_all(text: &mut [u8], steps: &mut [[u64; WORDS]]) -> Taken
     ensures { λ r. ⌜ TakesAll (memory fresh (now (text .entry)) (now (steps .entry))) r (now (text .exit)) (now (steps .exit)) ⌝ }
 {
-    let mut p = intake::start();
+    let mut p = grounds_intake::start();
     let mut turn = Turn::More;
     let mut turns = usize::MAX;
     while turns > 0 {
@@ -111,8 +111,8 @@ fn answer(taken: Taken, text: &mut [u8], steps: &mut [[u64; WORDS]]) -> Line
     ensures { λ r. ⌜ Verifies r ⌝ }
 {
     let p = taken.parser;
-    let q = intake::finish(p, steps);
-    verifying::reply(q, text, steps)
+    let q = grounds_intake::finish(p, steps);
+    grounds_replies::reply(q, text, steps)
 }
 
 // Hands over a line that some input asks for.

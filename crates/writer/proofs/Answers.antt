@@ -24,13 +24,13 @@ use Rattle.meaning.specs.Grounds.{accepted}
 use Rattle.meaning.proofs.Answered.{replies-one}
 use Rattle.meaning.proofs.Bounds.{read-bounded}
 use Rattle.search.specs.declared.Kind.the-variants as S
-use Rattle.verifier.specs.declared.Answer.the-variants as Verdict
-use Rattle.verifier.specs.declared.Conclusions.{Conclusions}
-use Rattle.judging.specs.Judgements as J
-use Rattle.judging.specs.Claims.{JudgesTo}
-use Rattle.judging.specs.declared.Outcome.{Outcome as Judgement}
-use Rattle.judging.specs.declared.Outcome.the-variants as W
-use Rattle.judging.proofs.Answers.{judges-one}
+use Rattle.grounds_verdict.specs.declared.Answer.the-variants as Verdict
+use Rattle.grounds_verdict.specs.declared.Conclusions.{Conclusions}
+use Rattle.grounds_judgement.specs.Judgements as J
+use Rattle.grounds_judgement.specs.Claims.{JudgesTo}
+use Rattle.grounds_judgement.specs.declared.Outcome.{Outcome as Judgement}
+use Rattle.grounds_judgement.specs.declared.Outcome.the-variants as W
+use Rattle.grounds_judgement.proofs.Answers.{judges-one}
 use Rattle.replies.specs.Told.{toldBy, toldOf}
 use Rattle.finder.specs.Claims.{Finds}
 use Rattle.replies.specs.declared.Outcome.{Outcome}

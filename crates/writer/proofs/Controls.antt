@@ -21,9 +21,9 @@ use Rattle.replies.specs.declared.Refusal.{Refusal}
 use Rattle.replies.specs.Told.{toldOf}
 use Rattle.replies.specs.declared.Outcome.the-variants as O
 use Rattle.finder.proofs.Judging.{told-one}
-use Rattle.judging.specs.Claims.{concludedIn}
-pub use Rattle.judging.proofs.Controls.{lullaby, lullaby-short, lullaby-breach}
-use Rattle.batches.proofs.Owned.{owned-each}
+use Rattle.grounds_judgement.specs.Claims.{concludedIn}
+pub use Rattle.grounds_judgement.proofs.Controls.{lullaby, lullaby-short, lullaby-breach}
+use Rattle.grounds_batches.proofs.Owned.{owned-each}
 use Rattle.writer.specs.Claims.{Answers, lacks, replies, stepsIn, Shown, ShownFor, Leaves, Writes}
 use Rattle.writer.specs.declared.Grounds.{Grounds}
 use Rattle.writer.proofs.Answers.{answers-one}

@@ -7,7 +7,7 @@ use Prim.Native.Nat.{ℕ}
 use borrow.Author.Needs.{needs}
 use lib.ListN.{replicate}
 use Rattle.replies.specs.declared.Refusal.{Refusal}
-use Rattle.verifier.specs.declared.Conclusions.{Conclusions}
+use Rattle.grounds_verdict.specs.declared.Conclusions.{Conclusions}
 use Rattle.replies.specs.declared.Outcome.{Outcome}
 use Rattle.replies.specs.declared.Outcome.the-variants.{Refused}
 use Rattle.runs.specs.Limits.{mostLiterals}

@@ -13,7 +13,7 @@ use Rattle.meaning.specs.Context.{Term, Context}
 use Rattle.meaning.specs.Rules.{variables, instances, choice, rangeOf, Clause, AllHold, Breach}
 use Rattle.meaning.specs.Grounds.{Each, instancesOf}
 use Rattle.meaning.proofs.Grounded.{instances-take}
-use Rattle.batches.proofs.Breaches.{breach-chosen}
+use Rattle.grounds_batches.proofs.Breaches.{breach-chosen}
 
 module _ (c : Context) (k : Clause) (a : List ℕ) (breach : Breach c (rangeOf c) k a) where
   abbrev placed : List ℕ

@@ -15,20 +15,20 @@ use Rattle.meaning.specs.Rules.{variables, Clause, AllHold}
 use Rattle.meaning.specs.Formed.{Formed}
 use Rattle.meaning.specs.Grounds.{Step, stepAt, Conclusion, conclusionFor, Each, instancesOf, literalAt, Derives, by-statement, by-reflexivity, by-symmetry, by-transitivity, by-congruence, by-addition, Verified, accepted}
 use Rattle.meaning.specs.Checking.{entries}
-use Rattle.verifier.specs.declared.Conclusions.{Conclusions}
-use Rattle.verifier.proofs.Concluding.{conclusions-at}
-use Rattle.judging.specs.Claims.{concludedIn}
+use Rattle.grounds_verdict.specs.declared.Conclusions.{Conclusions}
+use Rattle.grounds_verdict.proofs.Concluding.{conclusions-at}
+use Rattle.grounds_judgement.specs.Claims.{concludedIn}
 use Rattle.numbering.specs.Entries.{Filled}
 use Rattle.numbering.specs.declared.table.Table.{Table}
 use Rattle.grounding.specs.Draft.{countIn, stepOf, stepIn, draft}
 use Rattle.grounding.specs.Concluding.{ownerOf}
 use Rattle.grounding.proofs.Drafts.{Follow, length-draft}
-use Rattle.batches.specs.Sending.{stepsIn as stepsOf, Small}
-use Rattle.batches.specs.Drawing.{Drawn, drawn, endWritten, Used, by-step, by-end, ownedBy}
-use Rattle.batches.proofs.Marks.{draft-at}
-use Rattle.batches.proofs.Draws.{Drawing}
-use Rattle.batches.proofs.Breaches.{breach-shared, breach-said, breach-start, breach-next, breach-accepted, breach-each}
-use Rattle.emitting.specs.Emitting.{Kinded, Sendable}
+use Rattle.grounds_batches.specs.Sending.{stepsIn as stepsOf, Small}
+use Rattle.grounds_batches.specs.Drawing.{Drawn, drawn, endWritten, Used, by-step, by-end, ownedBy}
+use Rattle.grounds_batches.proofs.Marks.{draft-at}
+use Rattle.grounds_batches.proofs.Draws.{Drawing}
+use Rattle.grounds_batches.proofs.Breaches.{breach-shared, breach-said, breach-start, breach-next, breach-accepted, breach-each}
+use Rattle.grounds_words.specs.Emitting.{Kinded, Sendable}
 use Rattle.replies.specs.declared.Outcome.{Outcome}
 use Rattle.runs.specs.Limits.{mostRows, mostPatterns, mostLiterals}
 use Rattle.grounds_steps.specs.Steps.{mostEach, mostSteps}

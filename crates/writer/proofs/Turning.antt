@@ -21,15 +21,15 @@ use Rattle.ledger.specs.declared.ContextColumns.{ContextColumns}
 use Rattle.ledger.specs.declared.ClauseColumns.{ClauseColumns}
 use Rattle.prepared.specs.Claims.{said, asked}
 use Rattle.replies.specs.declared.Outcome.the-variants.{Breach}
-use Rattle.verifier.specs.declared.Conclusions.{Conclusions}
+use Rattle.grounds_verdict.specs.declared.Conclusions.{Conclusions}
 use Rattle.numbering.specs.declared.table.Table.{Table}
 use Rattle.grounding.specs.Draft.{countIn}
 use Rattle.grounding.specs.Classes.{Left, upto}
 use Rattle.grounding.specs.Concluding.{Said, ownerOf}
-use Rattle.batches.specs.Sending.{newOf, Out, outOf, batch, Small}
-use Rattle.batches.specs.Drawing.{Drawn, blankDrawn, drawSaid, drawOne, drawnTo}
+use Rattle.grounds_batches.specs.Sending.{newOf, Out, outOf, batch, Small}
+use Rattle.grounds_batches.specs.Drawing.{Drawn, blankDrawn, drawSaid, drawOne, drawnTo}
 use Rattle.concluding.specs.Saying.{Says}
-use Rattle.emitting.specs.Emitting.{Batched, Sendable}
+use Rattle.grounds_words.specs.Emitting.{Batched, Sendable}
 use Rattle.runs.specs.Limits.{mostRows, mostPatterns, mostLiterals}
 use Rattle.grounds_steps.specs.Steps.{mostSteps}
 use Rattle.grounding.specs.Limits.{numberRun}

@@ -19,10 +19,10 @@ use Rattle.meaning.specs.Replies.{breach, none, refused, refusal, replyOf, plac
 use Rattle.meaning.specs.Grounds.{Step, Verified, accepted, conclusionFor}
 use Rattle.runs.specs.Limits.{mostLiterals}
 use Rattle.grounds_steps.specs.Steps.{stepsOf, mostEach, mostSteps}
-use Rattle.verifier.specs.declared.Conclusions.{Conclusions}
-use Rattle.judging.specs.Claims.{concludedIn}
+use Rattle.grounds_verdict.specs.declared.Conclusions.{Conclusions}
+use Rattle.grounds_judgement.specs.Claims.{concludedIn}
 use Rattle.replies.specs.Told.{toldBy, toldOf}
-use Rattle.batches.specs.Drawing.{Used, ownedBy}
+use Rattle.grounds_batches.specs.Drawing.{Used, ownedBy}
 use Rattle.writer.specs.declared.Grounds.{Grounds}
 
 pub data Answers (text : List ℕ) (room : ℕ) : M.Reply → Type 0 where

@@ -39,7 +39,7 @@ use Rattle.prepared.specs.Claims.{said, asked, Asks}
 use Rattle.replies.specs.Told.{toldBy, toldOf}
 use Rattle.replies.specs.declared.Outcome.{Outcome}
 use Rattle.replies.specs.declared.Outcome.the-variants as O
-use Rattle.verifier.specs.declared.Conclusions.{Conclusions}
+use Rattle.grounds_verdict.specs.declared.Conclusions.{Conclusions}
 use Rattle.numbering.specs.Keys.{Keyed}
 use Rattle.numbering.specs.Entries.{Filled}
 use Rattle.numbering.specs.Pairs.{pairsOf, Held}
@@ -49,9 +49,9 @@ use Rattle.grounding.specs.Draft.{countIn}
 use Rattle.grounding.specs.Classes.{State}
 use Rattle.grounding.specs.Rounds.{started, stated, rounds}
 use Rattle.grounding.specs.Concluding.{Said, said as sayOf, resumed}
-use Rattle.batches.specs.Drawing.{Drawn, blankDrawn, drawOne, drawnTo}
-use Rattle.batches.specs.Sending.{Out, outOf, Small}
-use Rattle.emitting.specs.Emitting.{Sendable}
+use Rattle.grounds_batches.specs.Drawing.{Drawn, blankDrawn, drawOne, drawnTo}
+use Rattle.grounds_batches.specs.Sending.{Out, outOf, Small}
+use Rattle.grounds_words.specs.Emitting.{Sendable}
 use Rattle.grounds_steps.specs.Steps.{mostSteps}
 use Rattle.writer.specs.Claims.{noConclusions, Bare, Shown}
 use Rattle.writer.specs.declared.Grounds.{Grounds}

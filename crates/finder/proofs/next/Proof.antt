@@ -1,6 +1,6 @@
 -- `next` meets its contract: the refusal, or what the search answers to what was read and an assignment.
 -- Assumes nothing.
-use Rattle.finder.proofs.Following.{mine}
+use Rattle.finder.proofs.Later.{mine}
 use Rattle.finder.proofs.next.Statement.{statement}
 use Rattle.finder.proofs.next.Tie as tie
 

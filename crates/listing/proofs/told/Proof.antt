@@ -1,4 +1,4 @@
--- `told` meets its contract: a line for each kind of answer.
+-- `text_runs` meets its contract: a line for each kind of answer.
 -- Assumes nothing.
 use Rattle.listing.proofs.Lines.{mine}
 use Rattle.listing.proofs.told.Statement.{statement}

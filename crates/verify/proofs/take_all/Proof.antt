@@ -1,6 +1,6 @@
 -- `verify::take_all` meets its contract. The invariant: an input was taken in, by the pieces so far, a byte or more for each turn that is gone. The measure is the turns that are left.
 -- Assumes nothing.
-use Rattle.intake.specs.Machine.{memory, fresh}
+use Rattle.grounds_intake.specs.Machine.{memory, fresh}
 use Rattle.verify.proofs.Runs.{Going, mine}
 use Rattle.verify.proofs.take_all.Statement.{statement}
 use Rattle.verify.proofs.take_all.Tie as tie

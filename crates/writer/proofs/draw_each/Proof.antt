@@ -2,7 +2,7 @@
 -- Assumes nothing.
 use mathlib.Core.Path.{_≡_}
 use Prim.Native.Nat.{_-_}
-use Rattle.batches.specs.Sending.{outOf}
+use Rattle.grounds_batches.specs.Sending.{outOf}
 use Rattle.writer.proofs.Turning.{Turning, mine}
 use Rattle.writer.proofs.draw_each.Statement.{statement}
 use Rattle.writer.proofs.draw_each.Tie as tie
