@@ -132,7 +132,7 @@ impl Differing {
         self.work.push((left, right));
         while let Some((one, other)) = self.work.pop() {
             let (one, other) = (self.name[one as usize], self.name[other as usize]);
-            if one == other || self.dead(one) && self.dead(other) {
+            if one == other {
                 continue;
             }
             if both(&self.members[one as usize], &self.apart[other as usize]) != EMPTY {
@@ -144,10 +144,6 @@ impl Differing {
             self.look_up_uses(facts, signatures, small);
         }
         false
-    }
-
-    fn dead(&self, class: u16) -> bool {
-        both(&self.members[class as usize], &self.live) == EMPTY
     }
 
     fn join(&mut self, small: u16, large: u16) {
