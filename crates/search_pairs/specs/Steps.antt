@@ -5,17 +5,20 @@
 --     Way                            labels and marks on the way from a closed table, with the equation of rows i and j
 --     markedAt, movedAt              the marked rows, and the classes whose label is not their own
 --     Space, Labelled, setsSize      runs that are long enough; labels as they are between two steps
---     Member, Other, OverLabel       the next member of a label; the next row to join with, among the rows over a label
---     ApartFrom, Clashing            members of labels kept apart
+--     Member, Differs .. Mate        the next member of a label; the next row to join with, among the rows over a class, over a label, and among all
+--     Inside                         classes are rows
+--     ApartFrom, Labels, Clashing    members of labels kept apart
 --     Marked, Moved                  rows marked, and labels changed
 --     Joined                         two labels made one
+--     Meeting                        or members of them are kept apart
 --     remaining, Turned              how much is left to do, and one step
+--     Ends, Blank, Followed            labels before and after, and an equation that was followed
 -- Assumes nothing.
 use mathlib.Core.Bool.{Bool, true, false, _&&_}
 use mathlib.Core.List.{List, _∷_, map}
 use mathlib.Core.Path.{_≡_}
 use mathlib.Core.Logic.{_⊎_}
-use Prim.Native.Nat.{ℕ, _+_, _*_, _≤_, _<_}
+use Prim.Native.Nat.{ℕ, suc, _+_, _*_, _≤_, _<_}
 use lib.Dec.{eqb}
 use lib.ListN.{length, getD}
 use Rattle.meaning.specs.Context.{Row, rowAt, Context, equations, differences}
@@ -103,26 +106,48 @@ pub record Member (n : ℕ) (labels work : List ℕ) (z from r : ℕ) : Type 0 w
   pub here : r < n → repAt labels r ≡ z
   pub first : (a : ℕ) → from ≤ a → a < r → a < n → movedAt n work a ≡ true → repAt labels a ≡ z → ⊥
 
--- a row that agrees with row r and has another label, or none among some rows
-pub record Other (rows : List Row) (label : ℕ → ℕ) (Among : ℕ → Type 0) (r s : ℕ) : Type 0 where
-  pub agrees : s < length rows → agreeBy label rows r s ≡ true
-  pub other : s < length rows → label r ≡ label s → ⊥
-  pub none : length rows ≤ s → (t : ℕ) → t < length rows → Among t → agreeBy label rows r t ≡ true → label r ≡ label t
+-- row s agrees with row r and has another label
+pub record Differs (rows : List Row) (table labels : List ℕ) (r s : ℕ) (b : Bool) : Type 0 where
+  pub agrees : b ≡ true → agreeBy (labelBy table labels) rows r s ≡ true
+  pub other : b ≡ true → labelBy table labels r ≡ labelBy table labels s → ⊥
+  pub same : b ≡ false → agreeBy (labelBy table labels) rows r s ≡ true → labelBy table labels r ≡ labelBy table labels s
 
--- the rows over a member of label z
-pub record OverLabel (n : ℕ) (sets labels : List ℕ) (z t : ℕ) : Type 0 where
-  pub member : ℕ
-  pub inside : member < n
-  pub labelled : repAt labels member ≡ z
-  pub over : overAt n sets member t ≡ true
+-- such a row; or a number that is no row, and none of the rows over class a is so
+pub record OverClass (rows table sets labels : List ℕ) (a r s : ℕ) : Type 0 where
+  pub agrees : s < rowCount rows → agreeBy (labelBy table labels) (rowsOf rows) r s ≡ true
+  pub other : s < rowCount rows → labelBy table labels r ≡ labelBy table labels s → ⊥
+  pub none : rowCount rows ≤ s → (t : ℕ) → t < rowCount rows → overAt (rowCount rows) sets a t ≡ true
+      → agreeBy (labelBy table labels) (rowsOf rows) r t ≡ true → labelBy table labels r ≡ labelBy table labels t
 
-abbrev pub Anywhere : ℕ → Type 0
-Anywhere t = Unit {0}
+-- none of the rows over a member of label z
+pub record OverLabel (rows table sets labels : List ℕ) (z r s : ℕ) : Type 0 where
+  pub agrees : s < rowCount rows → agreeBy (labelBy table labels) (rowsOf rows) r s ≡ true
+  pub other : s < rowCount rows → labelBy table labels r ≡ labelBy table labels s → ⊥
+  pub none : rowCount rows ≤ s → (a t : ℕ) → a < rowCount rows → repAt labels a ≡ z → t < rowCount rows → overAt (rowCount rows) sets a t ≡ true
+      → agreeBy (labelBy table labels) (rowsOf rows) r t ≡ true → labelBy table labels r ≡ labelBy table labels t
+
+-- classes are rows
+pub record Inside (n : ℕ) (table : List ℕ) : Type 0 where
+  pub each : (i : ℕ) → i < n → repAt table i < n
+
+-- none of all rows, where the table and its sets are the context's
+pub record Mate (rows table sets labels : List ℕ) (r s : ℕ) : Type 0 where
+  pub agrees : s < rowCount rows → agreeBy (labelBy table labels) (rowsOf rows) r s ≡ true
+  pub other : s < rowCount rows → labelBy table labels r ≡ labelBy table labels s → ⊥
+  pub none : (said : List ℕ) → Ready rows said table sets → rowCount rows ≤ s → (t : ℕ) → t < rowCount rows
+      → agreeBy (labelBy table labels) (rowsOf rows) r t ≡ true → labelBy table labels r ≡ labelBy table labels t
 
 -- whether a class is kept apart from a member of label y
 pub record ApartFrom (n : ℕ) (sets labels : List ℕ) (a y : ℕ) (r : Bool) : Type 0 where
   pub found : r ≡ true → (b : ℕ) × (b < n) × (repAt labels b ≡ y) × (apartAt n sets a b ≡ true)
   pub clear : r ≡ false → (b : ℕ) → b < n → repAt labels b ≡ y → apartAt n sets a b ≡ false
+
+-- x and y are labels
+pub record Labels (n : ℕ) (labels : List ℕ) (x y : ℕ) : Type 0 where
+  pub left : x < n
+  pub right : y < n
+  pub left-own : repAt labels x ≡ x
+  pub right-own : repAt labels y ≡ y
 
 -- whether a member of label x is kept apart from a member of label y
 pub record Clashing (n : ℕ) (sets labels : List ℕ) (x y : ℕ) (r : Bool) : Type 0 where
@@ -155,3 +180,45 @@ pub record Joined (n : ℕ) (sets : List ℕ) (x y : ℕ) (labels work labels′
   pub reached : (a r : ℕ) → a < n → r < n → repAt labels a ≡ picked → overAt n sets a r ≡ true → markedAt work′ r ≡ true
   pub others : (a : ℕ) → movedAt n work a ≡ true → movedAt n work′ a ≡ true
   pub known : movedAt n work′ hi ≡ true
+
+-- the labels x and y become one, or the answer is that members of them are kept apart
+pub record Meeting (n : ℕ) (sets : List ℕ) (x y : ℕ) (labels work labels′ work′ : List ℕ) (b : Bool) : Type 0 where
+  pub clash : b ≡ true → Clashing n sets labels x y true
+  pub labels-kept : b ≡ true → labels′ ≡ labels
+  pub work-kept : b ≡ true → work′ ≡ work
+  pub clear : b ≡ false → Clashing n sets labels x y false
+  pub joined : b ≡ false → Joined n sets x y labels work labels′ work′
+
+-- the labels fall, or else the marks
+unfoldable pub remaining : ℕ → List ℕ → List ℕ → ℕ
+remaining n labels work = total n (repAt labels) * suc (wordsFor n * 64) + size (wordsFor n * 64) (markedAt work)
+
+-- one marked row looked at: nothing agrees with it, and it is marked no more; or labels were joined; or the answer is that sides became equal
+pub record Turned (rows table sets labels work labels′ work′ : List ℕ) (b : Bool) : Type 0 where
+  pub space : Space (rowCount rows) labels′ work′
+  pub laid : Labelled (rowCount rows) labels′ work′
+  pub less : b ≡ false → remaining (rowCount rows) labels′ work′ < remaining (rowCount rows) labels work
+  pub grown : (x y : ℕ) → labelBy table labels x ≡ labelBy table labels y → repAt table x < rowCount rows → repAt table y < rowCount rows → labelBy table labels′ x ≡ labelBy table labels′ y
+  pub way : (said : List ℕ) (i j : ℕ) → Ready rows said table sets → i < rowCount rows → j < rowCount rows
+      → Way (contextOf rows said) (repAt table) i j (repAt labels) (markedAt work) → b ≡ false
+      → Way (contextOf rows said) (repAt table) i j (repAt labels′) (markedAt work′)
+  pub wider : (said : List ℕ) (i j : ℕ) → Ready rows said table sets → i < rowCount rows → j < rowCount rows
+      → Way (contextOf rows said) (repAt table) i j (repAt labels) (markedAt work) → b ≡ true → widerBy (contextOf rows said) i j ≡ true
+
+-- two classes
+pub record Ends (n x y : ℕ) : Type 0 where
+  pub left : x < n
+  pub right : y < n
+  pub other : x ≡ y → ⊥
+
+-- own labels, and nothing marked
+pub record Blank (n : ℕ) (labels work : List ℕ) : Type 0 where
+  pub space : Space n labels work
+  pub own : (a : ℕ) → a < n → repAt labels a ≡ a
+  pub none : (j : ℕ) → getD work j 0 ≡ 0
+
+-- the equation of the classes x and y followed
+pub record Followed (rows table sets : List ℕ) (x y : ℕ) (labels work : List ℕ) (b : Bool) : Type 0 where
+  pub space : Space (rowCount rows) labels work
+  pub laid : Labelled (rowCount rows) labels work
+  pub so : (said : List ℕ) → Ready rows said table sets → repAt table x ≡ x → repAt table y ≡ y → b ≡ widerBy (contextOf rows said) x y

@@ -1,0 +1,78 @@
+// One equation followed from a closed table, and taken back.
+use super::labels::meet;
+use super::labels::words;
+use super::mates::label;
+use super::mates::mate;
+use bits::empty;
+use bits::lowest;
+use bits::next;
+use bits::remove;
+use runs::row_count;
+ghost use mathlib.Core.Bool.{true};
+ghost use mathlib.Core.Path.{_≡_};
+ghost use Prim.Native.Nat.{_<_, _≤_};
+ghost use lib.ListN.{length};
+ghost use Rattle.runs.specs.Runs.{rowCount};
+ghost use Rattle.search_pairs.specs.Steps.{Laid, Space, Labelled, setsSize, Inside, markedAt, Turned, Ends, Blank, Followed};
+
+// One marked row: where nothing agrees with it that has another label, it is marked no more; else the two labels become one. The answer is whether
+// members of them are kept apart.
+fn turn(
+    rows: &[u16],
+    table: &[u16],
+    sets: &[u64],
+    labels: &mut [u16],
+    work: &mut [u64],
+    r: usize,
+) -> bool
+    requires { ⌜ Laid (now rows) ⌝ }
+    requires { ⌜ Inside (rowCount (now rows)) (now table) ⌝ }
+    requires { ⌜ setsSize (rowCount (now rows)) ≤ length (now sets) ⌝ }
+    requires { ⌜ Space (rowCount (now rows)) (now labels) (now work) ⌝ }
+    requires { ⌜ Labelled (rowCount (now rows)) (now labels) (now work) ⌝ }
+    requires { ⌜ (r < rowCount (now rows)) × (markedAt (now work) r ≡ true) ⌝ }
+    ensures { λ b. ⌜ Turned (now (rows .entry)) (now (table .entry)) (now (sets .entry)) (now (labels .entry)) (now (work .entry)) (now (labels .exit)) (now (work .exit)) b ⌝ }
+{
+    let n = row_count(rows);
+    let s = mate(rows, table, sets, labels, work, r);
+    if n <= s {
+        remove(work, 0, r);
+        return false;
+    }
+    let x = label(table, labels, r);
+    let y = label(table, labels, s);
+    meet(sets, labels, work, n, x, y)
+}
+
+// Whether the equation of the classes x and y makes the sides of a difference equal. Labels and marks stay as they are at the end.
+pub(crate) fn follow(
+    rows: &[u16],
+    table: &[u16],
+    sets: &[u64],
+    labels: &mut [u16],
+    work: &mut [u64],
+    x: usize,
+    y: usize,
+) -> bool
+    requires { ⌜ Laid (now rows) ⌝ }
+    requires { ⌜ Inside (rowCount (now rows)) (now table) ⌝ }
+    requires { ⌜ setsSize (rowCount (now rows)) ≤ length (now sets) ⌝ }
+    requires { ⌜ Blank (rowCount (now rows)) (now labels) (now work) ⌝ }
+    requires { ⌜ Ends (rowCount (now rows)) x y ⌝ }
+    ensures { λ b. ⌜ Followed (now (rows .entry)) (now (table .entry)) (now (sets .entry)) x y (now (labels .exit)) (now (work .exit)) b ⌝ }
+{
+    let n = row_count(rows);
+    let w = words(n);
+    if meet(sets, labels, work, n, x, y) {
+        return true;
+    }
+    loop {
+        let r = lowest(work, 0, w);
+        if n <= r {
+            return false;
+        }
+        if turn(rows, table, sets, labels, work, r) {
+            return true;
+        }
+    }
+}
