@@ -2,6 +2,9 @@
 --     set-room, set-small               a set's words in a run, and where they begin
 --     Parting, Clearing                 members that were looked at are not kept apart
 --     Marking, Relabelling              members whose rows are marked, and members that have their new label
+--     Weighing                          the rows over a class counted
+--     lower-joined, joined-turned       two labels made one, either way round
+--     meeting-clash, meeting-joined     or members kept apart
 -- Assumes nothing.
 use mathlib.Core.Bool.{Bool, true, false, _||_}
 use mathlib.Core.List.{List}

@@ -1,3 +1,5 @@
+pub mod Asking
+pub mod Back
 pub mod Beside
 pub mod Joining
 pub mod Live

@@ -13,6 +13,8 @@
 --     Meeting                        or members of them are kept apart
 --     remaining, Turned              how much is left to do, and one step
 --     Ends, Blank, Followed            labels before and after, and an equation that was followed
+--     Owned                          labels taken back
+--     Open, Settled, Asked           whether an equation has to be followed; the answer for two classes, and for any two numbers
 -- Assumes nothing.
 use mathlib.Core.Bool.{Bool, true, false, _&&_}
 use mathlib.Core.List.{List, _∷_, map}
@@ -30,7 +32,7 @@ use Rattle.meaning.specs.Following.{widerBy}
 use Rattle.runs.specs.Limits.{rowSize, argPlaces}
 use Rattle.runs.specs.Runs.{argsFrom, rowCount, countIn, rowsOf, contextOf}
 use Rattle.bits.specs.Sets.{has, size}
-use Rattle.search_pairs.specs.Ready.{wordsFor, mostWords, overAt, apartAt, Ready}
+use Rattle.search_pairs.specs.Ready.{wordsFor, mostWords, overAt, besideAt, apartAt, liveAt, Ready}
 
 -- ---- rows
 
@@ -222,3 +224,25 @@ pub record Followed (rows table sets : List ℕ) (x y : ℕ) (labels work : List
   pub space : Space (rowCount rows) labels work
   pub laid : Labelled (rowCount rows) labels work
   pub so : (said : List ℕ) → Ready rows said table sets → repAt table x ≡ x → repAt table y ≡ y → b ≡ widerBy (contextOf rows said) x y
+
+-- each of n classes has its own label
+pub record Owned (n : ℕ) (labels labels′ : List ℕ) : Type 0 where
+  pub long : length labels′ ≡ length labels
+  pub own : (a : ℕ) → a < n → repAt labels′ a ≡ a
+
+-- ---- the answer
+
+-- whether the equation of two classes has to be followed
+pub record Open (n : ℕ) (sets : List ℕ) (x y : ℕ) (b : Bool) : Type 0 where
+  pub shut : b ≡ false → (x ≡ y) ⊎ ((besideAt n sets x y ≡ false) ⊎ ((liveAt n sets x ≡ false) × (liveAt n sets y ≡ false)))
+  pub other : b ≡ true → x ≡ y → ⊥
+
+-- of two classes
+pub record Settled (rows table sets : List ℕ) (x y : ℕ) (labels work : List ℕ) (b : Bool) : Type 0 where
+  pub blank : Blank (rowCount rows) labels work
+  pub so : (said : List ℕ) → Ready rows said table sets → repAt table x ≡ x → repAt table y ≡ y → b ≡ widerBy (contextOf rows said) x y
+
+-- of any two numbers, for each context that the table and its sets are those of; labels and marks come back as they were
+pub record Asked (rows table sets : List ℕ) (x y : ℕ) (labels work : List ℕ) (b : Bool) : Type 0 where
+  pub blank : Blank (rowCount rows) labels work
+  pub so : (said : List ℕ) → Ready rows said table sets → b ≡ widerBy (contextOf rows said) x y

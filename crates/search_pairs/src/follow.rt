@@ -13,7 +13,7 @@ ghost use mathlib.Core.Path.{_≡_};
 ghost use Prim.Native.Nat.{_<_, _≤_};
 ghost use lib.ListN.{length};
 ghost use Rattle.runs.specs.Runs.{rowCount};
-ghost use Rattle.search_pairs.specs.Steps.{Laid, Space, Labelled, setsSize, Inside, markedAt, Turned, Ends, Blank, Followed};
+ghost use Rattle.search_pairs.specs.Steps.{Laid, Space, Labelled, setsSize, Inside, markedAt, Turned, Ends, Blank, Followed, Owned};
 
 // One marked row: where nothing agrees with it that has another label, it is marked no more; else the two labels become one. The answer is whether
 // members of them are kept apart.
@@ -75,4 +75,28 @@ pub(crate) fn follow(
             return true;
         }
     }
+}
+
+// The classes that have another one's label get their own.
+fn own_labels(labels: &mut [u16], work: &[u64], n: usize)
+    requires { ⌜ Space n (now labels) (now work) ⌝ }
+    requires { ⌜ Labelled n (now labels) (now work) ⌝ }
+    ensures { λ _. ⌜ Owned n (now (labels .entry)) (now (labels .exit)) ⌝ }
+{
+    let w = words(n);
+    let mut k = next(work, w, w, 0);
+    while k < n {
+        labels[k] = k as u16;
+        k = next(work, w, w, k + 1);
+    }
+}
+
+// Each label is its own again, and nothing is marked.
+pub(crate) fn take_back(labels: &mut [u16], work: &mut [u64], n: usize)
+    requires { ⌜ Space n (now labels) (now work) ⌝ }
+    requires { ⌜ Labelled n (now labels) (now work) ⌝ }
+    ensures { λ _. ⌜ Blank n (now (labels .exit)) (now (work .exit)) ⌝ }
+{
+    own_labels(labels, work, n);
+    empty(work);
 }
