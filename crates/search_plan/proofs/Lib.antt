@@ -1,0 +1,5 @@
+pub mod Args
+pub mod Growing
+pub mod Literals
+pub mod Order
+pub mod Planning
