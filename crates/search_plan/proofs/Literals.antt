@@ -14,7 +14,7 @@ use lib.Bits.{bitOr}
 use lib.Dec.{eqb}
 use borrow.Author.Needs.{needs}
 use borrow.Author.Tests.{eq-eqb, ne-eqb}
-use lib.ListN.{length, getD}
+use lib.ListN.{getD}
 use Rattle.meaning.specs.Rules.{Literal}
 use Rattle.meaning.specs.Formed.{leftOf, rightOf}
 use Rattle.meaning.specs.Columns.{literalOf}
@@ -50,11 +50,11 @@ module _ (sign p q : ℕ) where
       go true e = rw (e, literalOf) (refl, refl)
       go false e = rw (e, literalOf) (refl, refl)
 
-idle-sides : (sets : List ℕ) (l : Literal) → idle l ≡ true → sides sets l ≡ 0
+pub idle-sides : (sets : List ℕ) (l : Literal) → idle l ≡ true → sides sets l ≡ 0
 unfolding sides
 idle-sides sets l e = rw (e, sides)
 
-asked-sides : (sets : List ℕ) (l : Literal) → idle l ≡ false → sides sets l ≡ bitOr (getD sets (leftOf l) 0) (getD sets (rightOf l) 0)
+pub asked-sides : (sets : List ℕ) (l : Literal) → idle l ≡ false → sides sets l ≡ bitOr (getD sets (leftOf l) 0) (getD sets (rightOf l) 0)
 unfolding sides
 asked-sides sets l e = rw (e, sides)
 

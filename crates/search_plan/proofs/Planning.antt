@@ -1,28 +1,28 @@
 -- From a well-formed rule to its plan, and that there is one plan alone.
+--     padded-at                       numbers before zeros, read at a place
 --     lent-room .. sets-padded        the first places of a run of zeros are lent, and what comes back stands before the others
 --     order-room .. order-made        the order of the rows
 --     plan-patterns .. sets-named     what the steps ask
 --     plan-made, plan-unfit           what the steps give is the plan; the answer where the runs are not well-formed
 --     plans-one                       two answers that meet the contract are equal
 -- Assumes nothing.
-use mathlib.Core.Bool.{Bool, true, false, not}
-use mathlib.Core.List.{List, [], _∷_, _++_}
+use mathlib.Core.Bool.{Bool, true, false}
+use mathlib.Core.List.{List, [], _++_}
 use mathlib.Core.Path.{_≡_, refl, sym, ap, ap₂, _∙_}
-use Prim.Native.Nat.{ℕ, zero, suc, _+_, _-_, _≤_, _<_}
+use Prim.Native.Nat.{ℕ, _+_, _-_, _≤_}
 use native.Mathlib.Omega.{arith}
 use borrow.Author.Needs.{needs}
-use borrow.Author.Tests.{not-true, not-false, ltb-true, ltb-false}
+use borrow.Author.Tests.{ltb-true, ltb-false}
 use lib.Dec.{ltb}
-use lib.ListN.{length, getD, take, drop, replicate, length-append, length-take, length-drop, length-replicate, getD-replicate, take-append-drop, List·getD-eq-default}
-use lib.Seq.{take-at, getD-drop, ext-getD}
+use lib.ListN.{length, getD, take, drop, replicate, length-append, length-take, length-drop, length-replicate, getD-replicate, take-append-drop, List·getD-append, List·getD-eq-default}
+use lib.Seq.{take-at, getD-drop, getD-append-add, ext-getD}
 use Rattle.meaning.specs.Rules.{variables}
 use Rattle.meaning.specs.Columns.{pad}
 use Rattle.meaning.specs.Values.{levels}
 use Rattle.meaning.proofs.Levels.{length-levels}
 use Rattle.runs.specs.Limits.{mostPatterns}
 use Rattle.runs.specs.Runs.{patternCount, literalCount, patternsOf, literalsOf}
-use Rattle.runs.specs.Fit.{Decides, Every, NamedAt, PatternAt, FitClause}
-use Rattle.runs.proofs.Deciding.{decides-not}
+use Rattle.runs.specs.Fit.{Every, NamedAt, PatternAt, FitClause}
 use Rattle.runs.proofs.Ruled.{fit-patterns, fit-literals}
 use Rattle.runs.proofs.Saying.{length-patterns}
 use Rattle.search_plan.specs.declared.Plan.{Plan}
@@ -31,8 +31,7 @@ use Rattle.search_plan.specs.Order.{levelCount, upTo, endsOf, Blank, Arr
 use Rattle.search_plan.specs.Steps.{RuleFit}
 use Rattle.search_plan.specs.Plans.{Ordered, planOf, unfitPlan, Plans, fits, unfits}
 use Rattle.search_plan.specs.Sets.{setOf, sets, reachedBy}
-use Rattle.search_plan.proofs.Growing.{grow, grow-length, sets-grow}
-use Rattle.search_plan.proofs.Order.{up-few}
+use Rattle.search_plan.proofs.Growing.{grow-length, sets-grow}
 
 length-sets : (patterns : List ℕ) → length (sets (patternsOf patterns)) ≡ patternCount patterns
 length-sets patterns = omega (arith, ap length (sets-grow (patternsOf patterns)), grow-length setOf [] (patternsOf patterns), length-patterns patterns)
@@ -69,6 +68,20 @@ order-padded ls start rows ends m a l =
     (ext-getD 0 (drop u rows) (replicate (m - u) 0)
     (omega (arith, length-drop u rows, length-replicate {A = ℕ} (m - u) 0, a .long))
     (λ i h. getD-drop u rows i 0 ∙ a .past (u + i) (omega arith) ∙ sym (zeros-at (m - u) i)))
+
+pub padded-at : (xs : List ℕ) (m p : ℕ) → getD (pad m xs) p 0 ≡ getD xs p 0
+unfolding pad
+padded-at xs m p = go (ltb p (length xs)) refl
+  where
+    go : (b : Bool) → ltb p (length xs) ≡ b → getD (pad m xs) p 0 ≡ getD xs p 0
+    go true q = List·getD-append xs (replicate (m - length xs) 0) 0 p (ltb-true p (length xs) q)
+    go false q =
+        let l : length xs ≤ p = ltb-false p (length xs) q in
+        let e : p ≡ length xs + (p - length xs) = omega arith in
+        ap (λ (i : ℕ). getD (xs ++ replicate (m - length xs) 0) i 0) e
+        ∙ getD-append-add xs (replicate (m - length xs) 0) (p - length xs) 0
+        ∙ zeros-at (m - length xs) (p - length xs)
+        ∙ sym (List·getD-eq-default xs 0 l)
 
 -- ---- the first places of a run are lent
 

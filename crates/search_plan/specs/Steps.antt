@@ -3,7 +3,7 @@
 --     RowFit, ArgsFit     a well-formed pattern row, and the arguments of a symbol, with numbers for the rows before it
 --     reachedOf           a variable's number and one, and 0 for a symbol
 -- Assumes nothing.
-use Prim.Native.Nat.{ℕ, suc, _+_, _*_, _≤_, _<_}
+use Prim.Native.Nat.{ℕ, _+_, _*_, _≤_, _<_}
 use mathlib.Core.List.{List}
 use Rattle.meaning.specs.Rules.{Pattern, variable, apply}
 use Rattle.runs.specs.Limits.{mostPatterns, patternSize}
