@@ -1,5 +1,4 @@
--- The ways out of the finder: what is answered to well-formed columns, and to a text.
---     lent, hunt-answers          what is lent to the search, and what it answers to well-formed columns
+-- The ways out of the finder: what is answered to a text.
 --     unfit-not-none, no-unfit    a search's failure is not told as none, and no text is told it
 --     find-sound                  what was laid out of a text is sound
 --     find-refused, find-found    the refusal, and the first breach or none
@@ -10,7 +9,6 @@ use mathlib.Core.Path.{_≡_, refl, sym, ap, ap₂, _∙_}
 use Prim.Native.Nat.{ℕ, _≤_}
 use native.Mathlib.Omega.{arith}
 use borrow.Author.Needs.{needs}
-use Rattle.meaning.specs.Equality.{Promise}
 use Rattle.meaning.specs.Rules.{Found, found, nothing, Clause}
 use Rattle.meaning.specs.Context.{Context}
 use Rattle.meaning.specs.Text as T
@@ -19,18 +17,14 @@ use Rattle.meaning.specs.Replies as M
 use Rattle.meaning.specs.Replies.{breach, none, refused, replyOf, placesOf, Judged, empty, clashes, answers, RepliesTo, Replies}
 use Rattle.meaning.proofs.Answered.{replies-one}
 use Rattle.meaning.proofs.Bounds.{read-bounded}
-use Rattle.ledger.specs.declared.ContextColumns.{ContextColumns}
-use Rattle.ledger.specs.declared.ClauseColumns.{ClauseColumns}
 use Rattle.replies.specs.declared.Refusal.{Refusal}
 use Rattle.replies.specs.Told.{meant, toldBy, toldOf}
-use Rattle.differing.specs.Knowing.{Lends}
 use Rattle.differing.proofs.Knowing.{knows-start}
 use Rattle.search.specs.Hunting.{answerOf}
-use Rattle.search.specs.Finding.{foundBy, FindsIn, fits, unfits}
+use Rattle.search.specs.Finding.{foundBy}
 use Rattle.search.specs.declared.Reply.{Reply as Searched}
 use Rattle.search.specs.declared.Kind.{Kind}
 use Rattle.search.specs.declared.Kind.the-variants as S
-use Rattle.prepared.specs.Claims.{said, asked, Asks}
 use Rattle.hunting.specs.Laid as H
 use Rattle.hunting.specs.Laid.{Lays}
 use Rattle.hunting.specs.declared.Laid.{Laid}
@@ -40,22 +34,11 @@ use Rattle.ruling.specs.declared.Answer.the-variants as A
 use Rattle.ruling.specs.declared.Ruled.{Ruled}
 use Rattle.ruling.proofs.Saying.{part-long}
 use Rattle.ruling.proofs.Ruling.{refused-answers}
-use Rattle.finder.specs.Claims.{MarkedIn, refusedWith, answeredWith, Finds}
+use Rattle.finder.specs.Claims.{refusedWith, answeredWith, Finds}
 use Rattle.replies.specs.declared.Outcome.{Outcome}
 use Rattle.replies.specs.declared.Outcome.the-variants as O
 use Rattle.replies.specs.declared.Reply.{Reply}
 use Rattle.finder.proofs.Standing.{told-filled, told-ready, ready-replies}
-
-pub lent : (c : ContextColumns) (t marks : List ℕ) → Promise (said c) 255 t → MarkedIn c t marks
-    → Lends (c .symbols) (c .counts) (c .args) (c .rows) (c .kinds) (c .lefts) (c .rights) (c .statements) t marks
-lent c t marks p m = record { closes = λ f. p; marks = m .so .fit }
-
-pub hunt-answers : (c : ContextColumns) (t : List ℕ) (k : ClauseColumns) → Asks c k → (r : Searched)
-    → FindsIn (c .symbols) (c .counts) (c .args) (c .rows) (c .kinds) (c .lefts) (c .rights) (c .statements) t (k .kinds) (k .heads) (k .counts) (k .args) (k .patterns) (k .signs) (k .lefts)
-    (k .rights) (k .literals) r
-    → r ≡ answerOf (foundBy (said c) t (asked k))
-hunt-answers c t k h r (fits p q) = refl
-hunt-answers c t k h r (unfits n) = absurd (n (h .held .fit) (h .clause))
 
 -- ---- the search's answer as a reply
 
@@ -140,4 +123,4 @@ finds-one text r s p q =
     let l : r .places ≡ s .places = p .places ∙ ap placesOf e ∙ sym (q .places) in
     ap₂ (λ (x : Outcome) (y : List ℕ). record { outcome = x; places = y }) o l
 
-pub ruleset mine = (needs, lent, knows-start, hunt-answers, answered-breach, answered-clear, answered-unfit, told-filled, told-ready, part-long, find-refused, find-sound, find-found)
+pub ruleset mine = (needs, knows-start, answered-breach, answered-clear, answered-unfit, told-filled, told-ready, part-long, find-refused, find-sound, find-found)

@@ -1,5 +1,4 @@
 -- The root of the laws.
-pub mod Ready
 pub mod Standing
 pub mod Judging
 pub mod Later

@@ -1,5 +1,4 @@
 -- What the finder claims of its answers.
---     MarkedIn                    the marks of a context's busy classes, by a table
 --     Parts, Filled               as much of each run is filled as there is
 --     refusedWith, answeredWith   the reply that is a refusal, and the one that a search's answer gives
 --     Finds                       the reply to a text, with the four places handed over
@@ -11,19 +10,14 @@ use lib.ListN.{length, replicate}
 use Rattle.meaning.specs.Text.{narrow}
 use Rattle.meaning.specs.Replies as M
 use Rattle.meaning.specs.Replies.{placesOf, Replies}
-use Rattle.further.specs.Marks.{MarksOf}
 use Rattle.search.specs.declared.Kind.{Kind}
 use Rattle.search.specs.declared.Kind.the-variants as S
-use Rattle.ledger.specs.declared.ContextColumns.{ContextColumns}
 use Rattle.replies.specs.declared.Refusal.{Refusal}
 use Rattle.replies.specs.declared.Outcome.the-variants.{Breach, Clear, Refused}
 use Rattle.replies.specs.declared.Reply.{Reply}
 use Rattle.runs.specs.Limits.{mostVariables, unusedPlace}
 use Rattle.text_runs.specs.declared.Told.{Told}
 use Rattle.replies.specs.Told.{toldBy, toldOf}
-
-pub record MarkedIn (c : ContextColumns) (table marks : List ℕ) : Type 0 where
-  pub so : MarksOf (c .symbols) (c .counts) (c .args) (c .rows) (c .kinds) (c .lefts) (c .rights) (c .statements) table marks
 
 pub record Parts (rows : List ℕ) (r : ℕ) (said : List ℕ) (s : ℕ) (patterns : List ℕ) (p : ℕ) (literals : List ℕ) (l : ℕ) : Type 0 where
   pub in-rows : r ≤ length rows

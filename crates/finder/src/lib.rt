@@ -3,8 +3,6 @@ use hunting::Laid;
 use hunting::hunt_after_with;
 use hunting::hunt_with;
 use hunting::unknown;
-use ledger::ClauseColumns;
-use ledger::ContextColumns;
 use replies::Outcome;
 use replies::Refusal;
 use replies::Reply;
@@ -17,13 +15,9 @@ use search::Kind;
 use text_runs::Told;
 ghost use mathlib.Core.Path.{_≡_};
 ghost use lib.ListN.{take};
-ghost use Rattle.meaning.specs.Equality.{Promise};
 ghost use Rattle.hunting.specs.Laid.{Ready, Lays};
 ghost use Rattle.ruling.specs.Claims.{rowsIn, saidIn, patternsIn, literalsIn};
-ghost use Rattle.search.specs.Hunting.{answerOf};
-ghost use Rattle.search.specs.Finding.{foundBy};
-ghost use Rattle.prepared.specs.Claims.{said, asked, Asks};
-ghost use Rattle.finder.specs.Claims.{MarkedIn, Parts, Filled, refusedWith, answeredWith, Finds};
+ghost use Rattle.finder.specs.Claims.{Parts, Filled, refusedWith, answeredWith, Finds};
 ghost use Rattle.finder.specs.Later.{Follows};
 
 fn refused(x: Refusal) -> Reply
@@ -34,62 +28,6 @@ fn refused(x: Refusal) -> Reply
         outcome,
         places: [UNUSED; VARIABLES],
     }
-}
-
-// The marks of the busy classes of a context, by a table.
-pub fn busy(c: ContextColumns, table: [u16; 255]) -> [u8; 255]
-    ensures marks { λ r. ⌜ MarkedIn c table r ⌝ }
-{
-    let rows = c.rows;
-    let statements = c.statements;
-    further::busy_classes(
-        &c.symbols,
-        &c.counts,
-        &c.args,
-        rows,
-        &c.kinds,
-        &c.lefts,
-        &c.rights,
-        statements,
-        &table,
-    )
-}
-
-// The first breach. The table is the context's closing.
-pub fn hunt(c: ContextColumns, table: [u16; 255], k: ClauseColumns) -> search::Reply
-    requires { ⌜ Asks c k ⌝ }
-    requires { ⌜ Promise (said c) 255 table ⌝ }
-    ensures { λ r. ⌜ r ≡ answerOf (foundBy (said c) table (asked k)) ⌝ }
-{
-    let rows = c.rows;
-    let statements = c.statements;
-    let patterns = k.patterns;
-    let literals = k.literals;
-    let marks = busy(c, table);
-    let mut known = differing::unknown();
-    search::find_with(
-        &c.symbols,
-        &c.counts,
-        &c.args,
-        rows,
-        &c.kinds,
-        &c.lefts,
-        &c.rights,
-        statements,
-        &table,
-        &table,
-        &marks,
-        &mut known,
-        &k.kinds,
-        &k.heads,
-        &k.counts,
-        &k.args,
-        patterns,
-        &k.signs,
-        &k.lefts,
-        &k.rights,
-        literals,
-    )
 }
 
 // The first numbers of four runs, laid out for a search.

@@ -16,9 +16,10 @@ use lib.Seq.{getD-take, take-length}
 use Rattle.meaning.specs.Context.{Term, Context}
 use Rattle.meaning.specs.Rules.{Clause}
 use Rattle.meaning.specs.Grounds.{Step, step₀, stepAt, numberIn, Cites}
-use Rattle.grounding.specs.Draft.{countIn, stepOf, stepIn, draft}
-use Rattle.grounding.specs.Classes.{upto}
-use Rattle.grounding.proofs.Drafts.{Follow, length-draft}
+use Rattle.runs.specs.Limits.{mostRows, mostPatterns}
+use Rattle.grounds_laws.specs.Draft.{countIn, stepOf, stepIn, draft}
+use Rattle.grounds_laws.specs.Classes.{upto}
+use Rattle.grounds_laws.proofs.Drafts.{Follow, length-draft}
 use Rattle.grounds_batches.specs.Marking.{kept, markedFor}
 use Rattle.grounds_batches.specs.Sending.{newOf, Out, stepsIn, forgotten, written, sendOne, sent, resent, batch, Small}
 use Rattle.grounds_batches.specs.Drawing.{CitedLater, ownedBy}
@@ -86,7 +87,7 @@ module _ (c : Context) (k : Clause) (a : List ℕ) (shared steps : List Step) (s
     pub rest : drop (o′ .next) (o′ .steps) ≡ drop (o′ .next) (o .steps)
     pub long : length (o′ .steps) ≡ length (o .steps)
 
-module _ (c : Context) (k : Clause) (a : List ℕ) (fewRows : length (c .rows) ≤ 255) (fewPatterns : length (k .patterns) ≤ 64) (from owner : ℕ)
+module _ (c : Context) (k : Clause) (a : List ℕ) (fewRows : length (c .rows) ≤ mostRows) (fewPatterns : length (k .patterns) ≤ mostPatterns) (from owner : ℕ)
     (cells : List ℕ) (drafted : Follow c k a (draft (length (c .rows)) from owner cells)) (small : Small cells) (shared : List Step)
     (alike : take from (draft (length (c .rows)) from owner cells) ≡ shared) (early : from ≤ countIn cells) (s : ℕ) (inside : s ≤ countIn cells) where
   abbrev steps : List Step

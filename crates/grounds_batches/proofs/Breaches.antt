@@ -1,6 +1,6 @@
--- From an assignment that breaks the rule and the table of its entries to grounds that are accepted.
+-- From an assignment that breaks the rule, and the keys and numbers of its entries, to grounds that are accepted.
 --     breach-chosen               a breach gives each variable a context row
---     filled-ready, filled-keys   the table of all entries has faithful numbers and their keys
+--     filled-ready, filled-keys   the runs of all entries hold faithful numbers and their keys
 --     breach-shared, breach-said  the closed classes of shared steps; what is said for each literal
 --     DrawnTo                     after so many literals: all that is written follows, is needed, and shows these
 --     breach-start, breach-next   before the first; after one more, where its column holds numbers of 16 bits
@@ -13,32 +13,33 @@
 -- Assumes nothing.
 use mathlib.Core.List.{List}
 use mathlib.Core.Path.{_≡_, ap, sym, _∙_}
-use Prim.Native.Nat.{ℕ, zero, suc, _+_, _*_, _≤_, _<_}
+use Prim.Native.Nat.{ℕ, zero, suc, _+_, _≤_, _<_}
 use native.Mathlib.Omega.{arith}
 use lib.ListN.{length, getD, take, drop, length-take}
 use Rattle.meaning.specs.Context.{Row, rowAt, Context, equations, differences}
 use Rattle.meaning.specs.Rules.{variables, rangeOf, Clause, AllHold, Breach}
 use Rattle.meaning.specs.Formed.{Formed}
 use Rattle.meaning.specs.Values.{numberAt}
-use Rattle.meaning.specs.Columns.{rowsFrom}
 use Rattle.meaning.specs.Grounds.{Conclusion, conclusionFor, literalAt, instancesOf, Each, Verified, accepted}
 use Rattle.meaning.specs.Checking.{entries, keyOf, numbered}
 use Rattle.meaning.proofs.Lists.{below-at}
 use Rattle.meaning.proofs.Table.{length-terms}
-use Rattle.meaning.proofs.Entries.{length-map}
+use Rattle.meaning.proofs.Entries.{length-map, length-entries}
 use Rattle.meaning.proofs.Cited.{Ready}
-use Rattle.meaning.proofs.Built.{rows-at}
 use Rattle.runs.specs.Limits.{mostRows, mostPatterns, mostLiterals}
-use Rattle.grounds_steps.specs.Steps.{stepsOf}
-use Rattle.numbering.specs.Entries.{Filled}
-use Rattle.numbering.specs.declared.table.Table.{Table}
-use Rattle.grounding.specs.Draft.{countIn}
-use Rattle.grounding.specs.Classes.{State, upto}
-use Rattle.grounding.specs.Rounds.{started, stated, rounds}
-use Rattle.grounding.specs.Concluding.{said, resumed}
-use Rattle.grounding.proofs.Drafts.{Under}
-use Rattle.grounding.proofs.Passes.{Keys}
-use Rattle.grounding.proofs.Literal.{Closed, closed-shared, shared-few, SaidFor, said-literal, hold-at}
+use Rattle.runs.specs.Runs.{countIn as argCount, rowsOf}
+use Rattle.runs.proofs.Saying.{rows-at}
+use Rattle.grounds_steps.specs.Steps.{mostEach, stepsOf}
+use Rattle.grounds_numbers.specs.Limits.{mostEntries}
+use Rattle.grounds_numbers.specs.Keys.{placesIn}
+use Rattle.grounds_numbers.specs.Entries.{Filled}
+use Rattle.grounds_laws.specs.Draft.{countIn}
+use Rattle.grounds_laws.specs.Classes.{State, upto}
+use Rattle.grounds_laws.specs.Rounds.{blank, started, stated, rounds}
+use Rattle.grounds_laws.specs.Concluding.{said, resumed}
+use Rattle.grounds_laws.proofs.Drafts.{Under}
+use Rattle.grounds_laws.proofs.Passes.{Keys}
+use Rattle.grounds_laws.proofs.Literal.{Closed, closed-shared, shared-few, SaidFor, said-literal, hold-at}
 use Rattle.grounds_batches.specs.Sending.{stepsIn, Small}
 use Rattle.grounds_batches.specs.Drawing.{Drawn, blankDrawn, drawnTo, drawn, endWritten, Used, ownedBy}
 use Rattle.grounds_batches.proofs.Owned.{passing-most}
@@ -52,64 +53,60 @@ breach-chosen c k a breach v h =
 
 -- places past the variables are not read
 module _ (c : Context) (k : Clause) (a : List ℕ) (formed : Formed c k)
-    (chosen : Each (variables (k .patterns)) (λ v. (v < length a) × (getD a v 0 < length (c .rows)))) (hold : AllHold c (instancesOf c k a) (k .literals)) (t : Table)
-    (filled : Filled (entries (c .rows) a (k .patterns)) t (length (c .rows) + length (k .patterns))) (fewRows : length (c .rows) ≤ mostRows)
+    (chosen : Each (variables (k .patterns)) (λ v. (v < length a) × (getD a v 0 < length (c .rows)))) (hold : AllHold c (instancesOf c k a) (k .literals)) (keys numbers : List ℕ)
+    (filled : Filled (entries (c .rows) a (k .patterns)) keys numbers (length (c .rows) + length (k .patterns))) (fewRows : length (c .rows) ≤ mostRows)
     (fewPatterns : length (k .patterns) ≤ mostPatterns) (fewLiterals : length (k .literals) ≤ mostLiterals) where
   abbrev all : ℕ
   all = length (c .rows) + length (k .patterns)
 
-  pub few : length (c .rows) + length (k .patterns) ≤ 319
+  pub few : length (c .rows) + length (k .patterns) ≤ mostEntries
   few = omega (arith, fewRows, fewPatterns)
 
-  pub filled-ready : Ready c k a (t .numbers)
+  pub filled-ready : Ready c k a numbers
   filled-ready = record { formed = formed; chosen = chosen; faithful = filled .faithful }
 
-  abbrev keys : List Row
-  keys = rowsFrom (t .symbols) (t .counts) (t .args) all
+  abbrev ks : List Row
+  ks = rowsOf keys
 
-  pub filled-keys : Keys c k a (t .numbers) filled-ready few keys
+  key-args : (x : ℕ) → x < all → length (rowAt (entries (c .rows) a (k .patterns)) x .args) ≡ length (take (argCount keys x) (placesIn keys x))
   unfolding keyOf
+  key-args x h =
+      sym (length-map (numberAt numbers) (rowAt (entries (c .rows) a (k .patterns)) x .args)) ∙ ap (λ (r : Row). length (r .args)) (sym (filled .keyed x h .so))
+
+  pub filled-keys : Keys c k a numbers filled-ready few ks
   filled-keys =
       record {
-        keys = λ x h. rows-at (t .symbols) (t .counts) (t .args) all x h ∙ filled .keys x h;
-        four = λ x h.
-            omega (
-              arith,
-              sym (length-map (numberAt (t .numbers)) (rowAt (entries (c .rows) a (k .patterns)) x .args)) ∙ ap (λ (r : Row). length (r .args)) (sym (filled .keys x h)),
-              length-take (getD (t .counts) x 0) (drop (x * 4) (t .args)),
-              filled .few x h,
-            );
+        keys = λ x h.
+            rows-at keys x (omega (arith, filled .keys-long, length-entries (c .rows) a (k .patterns))) ∙ filled .keyed x h .so;
+        four = λ x h. omega (arith, key-args x h, length-take (argCount keys x) (placesIn keys x), filled .keyed x h .few);
       }
 
   abbrev diffs : List (ℕ × ℕ)
-  diffs = numbered (t .numbers) (differences c)
-
-  abbrev m : ℕ
-  m = length (k .literals)
+  diffs = numbered numbers (differences c)
 
   -- ---- the shared steps, and each literal by itself
 
   abbrev final : State
-  final = rounds all keys 8192 (stated all (numbered (t .numbers) (equations c)) (started (t .numbers) all))
+  final = rounds all ks mostEach (stated all (numbered numbers (equations c)) (started numbers all blank))
 
-  pub breach-shared : Closed c k a (t .numbers) filled-ready few keys filled-keys final
-  breach-shared = closed-shared c k a (t .numbers) filled-ready few keys filled-keys
+  pub breach-shared : Closed c k a numbers filled-ready few ks filled-keys final
+  breach-shared = closed-shared c k a numbers filled-ready few ks filled-keys
 
   pub breach-shared-few : countIn (final .cells) ≤ 7018
-  breach-shared-few = shared-few c k a (t .numbers) filled-ready few keys filled-keys final breach-shared
+  breach-shared-few = shared-few c k a numbers filled-ready few ks filled-keys final breach-shared
 
   pub breach-said : (j : ℕ) → j < length (k .literals) → (cells : List ℕ) → Under (countIn (final .cells)) (final .cells) cells
-      → SaidFor c k a (t .numbers) filled-ready few keys filled-keys final breach-shared j (literalAt (k .literals) j)
-      (said all keys (t .numbers) (length (c .rows)) diffs (literalAt (k .literals) j) (resumed final cells))
+      → SaidFor c k a numbers filled-ready few ks filled-keys final breach-shared j (literalAt (k .literals) j)
+      (said all ks numbers (length (c .rows)) diffs (literalAt (k .literals) j) (resumed final cells))
   breach-said j h cells u =
-      said-literal c k a (t .numbers) filled-ready few keys filled-keys final breach-shared cells u j h (hold-at c (instancesOf c k a) (k .literals) hold j h)
+      said-literal c k a numbers filled-ready few ks filled-keys final breach-shared cells u j h (hold-at c (instancesOf c k a) (k .literals) hold j h)
 
   -- ---- all literals, in a run of words
 
   module _ (steps : List (List ℕ)) (room : 112320 ≤ length steps) where
     abbrev to : ℕ → Drawn
     to j =
-        drawnTo all keys (t .numbers) (length (c .rows)) diffs final (k .literals) j
+        drawnTo all ks numbers (length (c .rows)) diffs final (k .literals) j
         (blankDrawn (final .cells) steps)
 
     abbrev pub DrawnTo : ℕ → Drawn → Type 0
@@ -117,17 +114,17 @@ module _ (c : Context) (k : Clause) (a : List ℕ) (formed : Formed c k)
 
     -- the column of literal j
     abbrev pub SmallAt : ℕ → Type 0
-    SmallAt j = Small (said all keys (t .numbers) (length (c .rows)) diffs (literalAt (k .literals) j) (resumed final (to j .cells)) .cells)
+    SmallAt j = Small (said all ks numbers (length (c .rows)) diffs (literalAt (k .literals) j) (resumed final (to j .cells)) .cells)
 
     pub breach-start : DrawnTo 0 (to 0)
     unfolding drawnTo upto
     breach-start =
-        drawing-start c k a (t .numbers) filled-ready few keys filled-keys fewRows fewPatterns fewLiterals hold final breach-shared steps room
+        drawing-start c k a numbers filled-ready few ks filled-keys fewRows fewPatterns fewLiterals hold final breach-shared steps room
 
     pub breach-next : (j : ℕ) → j < length (k .literals) → SmallAt j → DrawnTo j (to j) → DrawnTo (suc j) (to (suc j))
     unfolding drawnTo upto
     breach-next j h small w =
-        drawing-next c k a (t .numbers) filled-ready few keys filled-keys fewRows fewPatterns fewLiterals hold final breach-shared steps room j h
+        drawing-next c k a numbers filled-ready few ks filled-keys fewRows fewPatterns fewLiterals hold final breach-shared steps room j h
         (to j)
         w
         small
@@ -137,7 +134,7 @@ module _ (c : Context) (k : Clause) (a : List ℕ) (formed : Formed c k)
     drawn-to small (suc j) h = breach-next j (omega arith) (small j (omega arith)) (drawn-to small j (omega arith))
 
     abbrev end : Drawn
-    end = drawn all keys (t .numbers) (length (c .rows)) diffs final (k .literals) steps
+    end = drawn all ks numbers (length (c .rows)) diffs final (k .literals) steps
 
     pub breach-drawn : ((j : ℕ) → j < length (k .literals) → SmallAt j) → DrawnTo (length (k .literals)) end
     unfolding drawn
@@ -147,7 +144,7 @@ module _ (c : Context) (k : Clause) (a : List ℕ) (formed : Formed c k)
       pub breach-accepted : (ds : List Conclusion) → ((j : ℕ) → j < length (k .literals) → conclusionFor (suc j) ds ≡ endWritten end j)
           → Verified c k a (stepsIn (end .out)) ds accepted
       breach-accepted =
-          drawing-accepted c k a (t .numbers) filled-ready few keys filled-keys fewRows fewPatterns fewLiterals hold final breach-shared steps room
+          drawing-accepted c k a numbers filled-ready few ks filled-keys fewRows fewPatterns fewLiterals hold final breach-shared steps room
           end
           w
 

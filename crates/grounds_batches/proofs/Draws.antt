@@ -19,18 +19,19 @@ use Rattle.meaning.specs.Rules.{Literal, equal, unequal, Clause, AllHold}
 use Rattle.meaning.specs.GroundColumns.{conclusionFrom}
 use Rattle.meaning.specs.Grounds.{Step, step₀, stepAt, numberIn, Conclusion, conclusionFor, literalAt, instancesOf, Cites, Concludes, Verified, accepted, accepts}
 use Rattle.meaning.specs.Checking.{numbered}
-use Rattle.runs.specs.Limits.{mostLiterals}
-use Rattle.grounds_steps.specs.Steps.{stepsOf}
-use Rattle.grounding.specs.Limits.{numberRun}
 use Rattle.meaning.proofs.Cited.{Ready}
-use Rattle.grounding.specs.Draft.{countIn, draft}
-use Rattle.grounding.specs.Classes.{State}
-use Rattle.grounding.specs.Concluding.{Said, said, resumed, ownerOf}
-use Rattle.grounding.proofs.Drafts.{Under, under-self, Follow, length-draft}
-use Rattle.grounding.proofs.Builds.{all}
-use Rattle.grounding.proofs.Passes.{Keys}
-use Rattle.grounding.proofs.Concludes.{conclusion}
-use Rattle.grounding.proofs.Literal.{Closed, SaidFor, said-literal, said-shared, hold-at}
+use Rattle.runs.specs.Limits.{mostRows, mostPatterns, mostLiterals}
+use Rattle.grounds_steps.specs.Steps.{stepsOf}
+use Rattle.grounds_numbers.specs.Limits.{mostEntries}
+use Rattle.grounds_laws.specs.Limits.{numberRun}
+use Rattle.grounds_laws.specs.Draft.{countIn, draft}
+use Rattle.grounds_laws.specs.Classes.{State}
+use Rattle.grounds_laws.specs.Concluding.{Said, said, resumed, ownerOf}
+use Rattle.grounds_laws.proofs.Drafts.{Under, under-self, Follow, length-draft}
+use Rattle.grounds_laws.proofs.Builds.{all}
+use Rattle.grounds_laws.proofs.Passes.{Keys}
+use Rattle.grounds_laws.proofs.Concludes.{conclusion}
+use Rattle.grounds_laws.proofs.Literal.{Closed, SaidFor, said-literal, said-shared, hold-at}
 use Rattle.grounds_batches.specs.Sending.{newOf, Out, stepsIn, forgotten, batch, Small}
 use Rattle.grounds_batches.specs.Drawing.{Drawn, drawSaid, drawOne, blankDrawn, endWritten, CitedLater, Used, by-step, by-end, ownedBy}
 use Rattle.grounds_batches.proofs.Owned.{passing}
@@ -115,8 +116,8 @@ module _ (c : Context) (k : Clause) (a : List ℕ) where
       pub rest : drop (d .out .next) (d .out .steps) ≡ drop (d .out .next) steps
       pub long : length (d .out .steps) ≡ length steps
 
-  module _ (ns : List ℕ) (ready : Ready c k a ns) (few : length (c .rows) + length (k .patterns) ≤ 319) (ks : List Row) (keyed : Keys c k a ns ready few ks)
-      (fewRows : length (c .rows) ≤ 255) (fewPatterns : length (k .patterns) ≤ 64) (fewLiterals : length (k .literals) ≤ mostLiterals)
+  module _ (ns : List ℕ) (ready : Ready c k a ns) (few : length (c .rows) + length (k .patterns) ≤ mostEntries) (ks : List Row) (keyed : Keys c k a ns ready few ks)
+      (fewRows : length (c .rows) ≤ mostRows) (fewPatterns : length (k .patterns) ≤ mostPatterns) (fewLiterals : length (k .literals) ≤ mostLiterals)
       (hold : AllHold c (instancesOf c k a) (k .literals)) (closed : State) (closes : Closed c k a ns ready few ks keyed closed) (steps : List (List ℕ))
       (room : 112320 ≤ length steps) where
     abbrev N : ℕ

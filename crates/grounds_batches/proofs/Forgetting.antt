@@ -12,7 +12,7 @@ use lib.Dec.{eqb, ltb}
 use borrow.Author.Tests.{eqb-true, eqb-false, ltb-true, ltb-false}
 use lib.ListN.{length, getD, length-set, List·getD-eq-default}
 use lib.Seq.{getD-set-same, getD-set-other}
-use Rattle.grounding.specs.Classes.{upto}
+use Rattle.grounds_laws.specs.Classes.{upto}
 use Rattle.grounds_batches.specs.Sending.{forgetOne, forgotten}
 
 module _ (from : ℕ) (news : List ℕ) where

@@ -16,10 +16,10 @@ use lib.ListN.{length, getD, set, replicate, length-set, length-replicate}
 use lib.Seq.{getD-set-same, getD-set-other}
 use Rattle.meaning.specs.Grounds.{step₀, stepAt}
 use Rattle.meaning.proofs.Lists.{length-snoc, snoc-at}
-use Rattle.grounding.specs.Limits.{draftSize}
-use Rattle.grounding.specs.Draft.{countIn, stepIn, draftTo, draft, cellIn}
+use Rattle.grounds_laws.specs.Limits.{draftSize}
+use Rattle.grounds_laws.specs.Draft.{countIn, stepIn, draftTo, draft, cellIn}
 use Rattle.grounds_batches.specs.Marking.{kept, noted, notedFour, markOne, marked, markedFor}
-use Rattle.grounding.proofs.Drafts.{length-draftTo}
+use Rattle.grounds_laws.proofs.Drafts.{length-draftTo}
 
 -- ---- steps of a column
 

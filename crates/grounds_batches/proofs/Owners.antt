@@ -4,17 +4,17 @@
 --     owns-other     an owner other than the column's has no more, where it is not 0
 --     shares-more    of shared steps there are as many more as have new numbers; with those of the column, where its owner is 0
 -- Assumes nothing.
-use mathlib.Core.Bool.{Bool, true, false, _&&_}
+use mathlib.Core.Bool.{Bool, true, false}
 use mathlib.Core.List.{List}
-use mathlib.Core.Path.{_≡_, refl, ap, sym, _∙_, subst}
+use mathlib.Core.Path.{_≡_, refl, ap, sym, _∙_}
 use Prim.Native.Nat.{ℕ, suc, _+_, _-_, _≤_, _<_}
 use native.Mathlib.Omega.{arith}
 use lib.Dec.{eqb, ltb}
 use borrow.Author.Tests.{eqb-true, eqb-false, eq-eqb, lt-ltb, le-ltb, ltb-true, ltb-false}
-use lib.ListN.{length, getD}
+use lib.ListN.{length}
 use Rattle.meaning.specs.Grounds.{Step, stepAt}
-use Rattle.grounding.specs.Draft.{countIn, stepOf, stepIn, ownerAt, draft}
-use Rattle.grounding.proofs.Drafts.{length-draft}
+use Rattle.grounds_laws.specs.Draft.{countIn, stepOf, stepIn, ownerAt, draft}
+use Rattle.grounds_laws.proofs.Drafts.{length-draft}
 use Rattle.grounds_batches.specs.Marking.{kept}
 use Rattle.grounds_batches.specs.Sending.{forgotten}
 use Rattle.grounds_batches.specs.Drawing.{ownedBy}

@@ -7,7 +7,7 @@
 --     sending-start, sending-skip, sending-send   before the first; a step that is not sent, and one that is
 --     cites-new                  what a draft's step cites has a new number
 -- Assumes nothing.
-use mathlib.Core.Bool.{Bool, true, false, not, _&&_}
+use mathlib.Core.Bool.{Bool, true, false, _&&_}
 use mathlib.Core.List.{List, [], _∷_, _++_, map}
 use mathlib.Core.Path.{_≡_, refl, ap, sym, _∙_, subst}
 use mathlib.Core.Logic.{_⊎_, inl, inr, ⊎-elim}
@@ -21,7 +21,7 @@ use Rattle.meaning.specs.Context.{Term, Terms, Context, equations}
 use Rattle.meaning.specs.Rules.{Clause}
 use Rattle.meaning.specs.Grounds.{Step, step₀, stepAt, numberIn, PairAt, Cites, CitesEach, each-stop, each-more, Derives, by-statement, by-reflexivity, by-symmetry, by-transitivity, by-congruence, by-addition, Follows}
 use Rattle.meaning.proofs.Lists.{length-snoc}
-use Rattle.grounding.proofs.Drafts.{Follow, follow-snoc}
+use Rattle.grounds_laws.proofs.Drafts.{Follow, follow-snoc}
 use Rattle.grounds_batches.specs.Marking.{kept}
 use Rattle.grounds_batches.specs.Sending.{newOf}
 use Rattle.grounds_batches.specs.Drawing.{ownedBy}

@@ -7,21 +7,22 @@
 use mathlib.Core.Bool.{Bool, true, false}
 use mathlib.Core.List.{List, [], _∷_, _++_, map-append}
 use mathlib.Core.Path.{_≡_, refl, ap, ap₂, sym, _∙_, subst, subst₂}
-use Prim.Native.Nat.{ℕ, zero, suc, _+_, _*_, _/_, _%_, _≤_, _<_}
+use Prim.Native.Nat.{ℕ, zero, suc, _+_, _/_, _%_, _≤_, _<_}
 use native.Mathlib.Omega.{arith}
 use lib.Dec.{eqb, ltb}
 use borrow.Author.Tests.{eqb-true, eqb-false, lt-ltb, le-ltb, ltb-true, ltb-false}
-use lib.ListN.{length, getD, set, take, drop, length-set, length-take}
+use lib.ListN.{length, getD, set, take, drop, length-set}
 use lib.Seq.{take-suc-set, drop-set-lt, drop-drop}
 use Rattle.meaning.specs.Context.{Context}
 use Rattle.meaning.specs.Rules.{Clause}
 use Rattle.meaning.specs.Grounds.{Ref, Step, stepAt, Stands, for-row, for-instance, Derives, by-statement, by-reflexivity, by-symmetry, by-transitivity, by-congruence, by-addition, Follows}
 use Rattle.meaning.specs.GroundColumns.{stepFrom}
+use Rattle.runs.specs.Limits.{mostRows, mostPatterns}
 use Rattle.grounds_steps.specs.Steps.{stepOf as wordsStep, wordsOf, stepsOf}
 use Rattle.meaning.proofs.Lists.{length-snoc}
-use Rattle.grounding.specs.Draft.{refOf, stepOf, countIn, ownerAt, stepIn, draft, cellIn}
-use Rattle.grounding.specs.Classes.{upto}
-use Rattle.grounding.proofs.Drafts.{Follow, length-draft}
+use Rattle.grounds_laws.specs.Draft.{refOf, stepOf, countIn, ownerAt, stepIn, draft, cellIn}
+use Rattle.grounds_laws.specs.Classes.{upto}
+use Rattle.grounds_laws.proofs.Drafts.{Follow, length-draft}
 use Rattle.grounds_batches.specs.Marking.{kept}
 use Rattle.grounds_batches.specs.Sending.{newOf, newIn, wordOf, twoIn, wordIn, numbersWord, Out, stepsIn, written, sendOne, sent, Small}
 use Rattle.grounds_batches.proofs.Marks.{draft-at}
@@ -58,7 +59,7 @@ drop-later l l₀ i v e = drop-set-lt (i + 1) l i v (omega arith) ∙ sym (drop-
 
 -- ---- what a step that follows holds fits its places
 
-module _ (c : Context) (k : Clause) (a : List ℕ) (rows : length (c .rows) ≤ 255) (patterns : length (k .patterns) ≤ 64) where
+module _ (c : Context) (k : Clause) (a : List ℕ) (rows : length (c .rows) ≤ mostRows) (patterns : length (k .patterns) ≤ mostPatterns) where
   stands-small : (r : Ref) {t : _} → Stands c k a r t → (r .mark < 256) × (r .row < 65536)
   stands-small r (for-row e h q) = (omega arith, omega arith)
   stands-small r (for-instance e h q) = (omega arith, omega arith)

@@ -20,10 +20,10 @@ use Rattle.meaning.specs.Rules.{Literal}
 use Rattle.meaning.specs.Grounds.{Step, Conclusion, stepAt, numberIn, literalAt}
 use Rattle.meaning.specs.GroundColumns.{conclusionFrom}
 use Rattle.runs.specs.Limits.{mostLiterals}
-use Rattle.grounding.specs.Limits.{numberRun}
-use Rattle.grounding.specs.Draft.{countIn}
-use Rattle.grounding.specs.Classes.{State, upto}
-use Rattle.grounding.specs.Concluding.{Said, said, resumed, ownerOf}
+use Rattle.grounds_laws.specs.Limits.{numberRun}
+use Rattle.grounds_laws.specs.Draft.{countIn}
+use Rattle.grounds_laws.specs.Classes.{State, upto}
+use Rattle.grounds_laws.specs.Concluding.{Said, said, resumed, ownerOf}
 use Rattle.grounds_batches.specs.Sending.{newOf, Out, outOf, batch}
 
 pub record Drawn : Type 0 where

@@ -9,8 +9,8 @@ use mathlib.Core.List.{List}
 use Prim.Native.Nat.{ℕ, zero, suc, _+_, _*_}
 use lib.Dec.{eqb, ltb, leb}
 use lib.ListN.{getD, set, replicate}
-use Rattle.grounding.specs.Limits.{draftSize}
-use Rattle.grounding.specs.Draft.{countIn}
+use Rattle.grounds_laws.specs.Limits.{draftSize}
+use Rattle.grounds_laws.specs.Draft.{countIn}
 
 unfoldable pub kept : List ℕ → ℕ → Bool
 kept marks i = not (eqb (getD marks i 0) 0)

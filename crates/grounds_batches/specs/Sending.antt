@@ -14,9 +14,9 @@ use Prim.Native.Nat.{ℕ, _+_, _*_, _-_, _≤_, _<_}
 use lib.Dec.{eqb, ltb}
 use Rattle.meaning.specs.Grounds.{Step}
 use Rattle.grounds_steps.specs.Steps.{wordsOf, stepsOf}
-use Rattle.grounding.specs.Limits.{draftSize}
-use Rattle.grounding.specs.Draft.{refOf, countIn, ownerAt, cellIn}
-use Rattle.grounding.specs.Classes.{upto}
+use Rattle.grounds_laws.specs.Limits.{draftSize}
+use Rattle.grounds_laws.specs.Draft.{refOf, countIn, ownerAt, cellIn}
+use Rattle.grounds_laws.specs.Classes.{upto}
 use Rattle.grounds_batches.specs.Marking.{kept, markedFor}
 use lib.ListN.{length, getD, set, take}
 

@@ -1,7 +1,7 @@
 -- What shows a literal, as the code writes it.
 --     Placing                   a loop over stated differences: the first so many have two labels
 --     Copying                   a loop over a table: the first so many places are copied
---     literal-said              what is said by a literal's kind is said for the literal
+--     said-of, literal-said     what is said by a literal's kind is said for the literal
 --     says-resumed              what is said from a column and a table is said from the closed classes again
 --     placing, copying, saying  what the functions of this crate leave to show
 -- Assumes nothing.
@@ -154,7 +154,7 @@ own-long table e h = sym (own-counted table e h) ∙ e
 -- ---- a literal
 
 module _ (n : ℕ) (ks : List Row) (ns : List ℕ) (rows : ℕ) (diffs : List (ℕ × ℕ)) where
-  said-of : (kind p q : ℕ) (state : State)
+  pub said-of : (kind p q : ℕ) (state : State)
       → said n ks ns rows diffs (literalOf kind p q) state ≡ saidBy n ks diffs kind (numberAt ns (rows + p)) (numberAt ns (rows + q)) state
   unfolding said saidBy literalOf
   said-of kind p q state = go (eqb kind 6) refl

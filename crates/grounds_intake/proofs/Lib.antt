@@ -5,4 +5,3 @@ pub mod Lined
 pub mod Noting
 pub mod Standing
 pub mod Controls
-pub mod Columns

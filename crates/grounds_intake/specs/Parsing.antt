@@ -3,7 +3,6 @@
 --     isStep, isConclusion         a well-formed B0 line, 50 digits and a feed; a well-formed B1 line, 26 digits and a feed
 --     placesIn                     the assignment: four rows by the 08 line, 255 where it gives none
 --     stepsIn, conclusionsIn       the three words of each later line that is no conclusion, 0 where the line is malformed; the conclusions
---     wordsIn                      word 0, 1 or 2 of each such line
 -- A line counts by whether it is digits alone with a feed behind them, how long it is, and the values of its digits. Assumes nothing.
 use mathlib.Core.Bool.{Bool, true, false, _&&_}
 use mathlib.Core.List.{List, [], _∷_, map}
@@ -103,10 +102,6 @@ stepWords good size vs = wordsOf (wordOf good size vs 0) (wordOf good size vs 1)
 unfoldable pub stepsIn : List Line → List (List ℕ)
 stepsIn [] = []
 stepsIn (l ∷ ls) = choose (concludes l) (stepsIn ls) (stepWords (goodLine l) (length (l .bytes)) (digitsOf l) ∷ stepsIn ls)
-
-unfoldable pub wordsIn : ℕ → List Line → List ℕ
-wordsIn i [] = []
-wordsIn i (l ∷ ls) = choose (concludes l) (wordsIn i ls) (wordOf (goodLine l) (length (l .bytes)) (digitsOf l) i ∷ wordsIn i ls)
 
 unfoldable pub conclusionsIn : List Line → List Conclusion
 conclusionsIn [] = []

@@ -1,26 +1,25 @@
--- The frames as `verify` reads them: the words and the conclusions that they were written from.
+-- The frames as `verify` reads them: the steps and the conclusions that they were written from.
 --     Words, Narrows         words of 64 bits; conclusions whose fields fit on their lines
---     frames-words           the words of the steps
+--     frames-steps           the steps
 --     frames-conclusions     the conclusions
 -- Assumes nothing.
 use mathlib.Core.List.{List, [], _∷_, _++_, append-nil, append-assoc}
-use mathlib.Core.Path.{_≡_, refl, sym, ap, ap₂, _∙_}
+use mathlib.Core.Path.{_≡_, refl, sym, ap, _∙_}
 use Prim.Native.Nat.{ℕ, zero, suc, _+_, _-_, _≤_, _<_, min}
 use native.Mathlib.Omega.{arith}
-use lib.ListN.{length, getD, take, drop, length-map}
+use lib.ListN.{length, getD, take, drop, length-map, List·getD-map}
 use lib.Seq.{drop-cons}
 use Rattle.meaning.specs.Text.{Line, linesFrom, linesOf}
 use Rattle.meaning.specs.Writing.{hex}
-use Rattle.meaning.specs.Grounds.{Conclusion}
+use Rattle.meaning.specs.Grounds.{Step, Conclusion}
 use Rattle.meaning.specs.GroundColumns.{conclusionsFrom}
 use Rattle.runs.specs.Limits.{mostLiterals}
-use Rattle.grounds_steps.specs.Steps.{wordIn}
+use Rattle.grounds_steps.specs.Steps.{wordIn, wordsOf, stepOf, stepsOf}
 use Rattle.meaning.proofs.Lines.{whole, frame-line}
 use Rattle.grounds_verdict.specs.declared.Conclusions.{Conclusions}
 use Rattle.reply_lines.specs.Pieces.{run}
 use Rattle.reply_lines.proofs.Running.{run-snoc}
-use Rattle.grounds_intake.specs.Parsing.{goodLine, digitsOf, wordOf, wordsIn, conclusionsIn}
-use Rattle.writer.proofs.Answers.{columnOf}
+use Rattle.grounds_intake.specs.Parsing.{goodLine, digitsOf, stepWords, stepsIn, conclusionsIn}
 use Rattle.grounds_lines.specs.Lines.{stepBytes, stepFrame, endBytes, endFrame, endOf, itemFrame}
 use Rattle.grounds_lines.specs.Filling.{stepCount, itemCount, lineIn, framesFrom}
 use Rattle.grounds_lines.proofs.Frames.{step-item, end-item}
@@ -30,24 +29,21 @@ use Rattle.grounds_lines.proofs.Readback.{step-concludes, step-first, s
 abbrev pub Words : List (List ℕ) → Type 0
 Words l = (p i : ℕ) → wordIn l p i < 18446744073709551616
 
-column-at : (i : ℕ) (steps : List (List ℕ)) (p : ℕ) → wordIn steps p i ≡ getD (columnOf i steps) p 0
-column-at i [] p = refl
-column-at i (w ∷ steps) zero = refl
-column-at i (w ∷ steps) (suc p) = column-at i steps p
-
 abbrev pub Narrows : Conclusions → Type 0
 Narrows d = (j : ℕ) → j < mostLiterals → Narrow (endOf d j)
 
 -- ---- a line more
 
-words-step : (x y z i : ℕ) (ls : List Line) → wordsIn i (whole (hex (stepBytes x y z)) ∷ ls)
-    ≡ wordOf (goodLine (whole (hex (stepBytes x y z)))) (length (hex (stepBytes x y z))) (digitsOf (whole (hex (stepBytes x y z)))) i ∷ wordsIn i ls
-unfolding wordsIn
-words-step x y z i ls = rw (step-concludes x y z) refl
+abbrev wordsRead : Line → List ℕ
+wordsRead l = stepWords (goodLine l) (length (l .bytes)) (digitsOf l)
 
-words-end : (c : Conclusion) (i : ℕ) (ls : List Line) → wordsIn i (whole (hex (endBytes c)) ∷ ls) ≡ wordsIn i ls
-unfolding wordsIn
-words-end c i ls = rw (end-concludes c) refl
+words-step : (x y z : ℕ) (ls : List Line) → stepsIn (whole (hex (stepBytes x y z)) ∷ ls) ≡ wordsRead (whole (hex (stepBytes x y z))) ∷ stepsIn ls
+unfolding stepsIn
+words-step x y z ls = rw (step-concludes x y z) refl
+
+words-end : (c : Conclusion) (ls : List Line) → stepsIn (whole (hex (endBytes c)) ∷ ls) ≡ stepsIn ls
+unfolding stepsIn
+words-end c ls = rw (end-concludes c) refl
 
 ends-step : (x y z : ℕ) (ls : List Line) → conclusionsIn (whole (hex (stepBytes x y z)) ∷ ls) ≡ conclusionsIn ls
 unfolding conclusionsIn
@@ -82,33 +78,39 @@ module _ (steps : List (List ℕ)) (n : ℕ) (d : Conclusions) where
   unfolding run
   run-first k p w = append-assoc (piece p) (run piece (suc p) k) w
 
-  -- ---- words
+  -- ---- steps
 
-  module _ (i : ℕ) (column : List ℕ) (long : n ≤ length column)
-      (back : (p : ℕ) → wordOf (goodLine (stepAt p)) (length (stepAt p .bytes)) (digitsOf (stepAt p)) i ≡ getD column p 0) where
-    words-steps : (k p : ℕ) (w : List ℕ) → p + k ≤ n → wordsIn i (linesOf (run piece p k ++ w)) ≡ take k (drop p column) ++ wordsIn i (linesOf w)
-    unfolding run
-    words-steps zero p w h = refl
-    words-steps (suc k) p w h =
-        ap (λ (l : List ℕ). wordsIn i (linesOf l)) (run-first k p w) ∙ ap (wordsIn i) (step-line p (run piece (suc p) k ++ w) (omega arith))
-        ∙ one (linesOf (run piece (suc p) k ++ w))
-        ∙ ap₂ _∷_ (back p) (words-steps k (suc p) w (omega arith))
-        ∙ ap (λ (l : List ℕ). take (suc k) l ++ wordsIn i (linesOf w)) (sym (drop-cons column p 0 (omega arith)))
-      where
-        one : (ls : List Line) → wordsIn i (stepAt p ∷ ls) ≡ wordOf (goodLine (stepAt p)) (length (stepAt p .bytes)) (digitsOf (stepAt p)) i ∷ wordsIn i ls
-        one ls = words-step (wordIn steps p 0) (wordIn steps p 1) (wordIn steps p 2) i ls
+  module _ (long : n ≤ length steps) (back : (p : ℕ) → wordsRead (stepAt p) ≡ wordsOf (wordIn steps p 0) (wordIn steps p 1) (wordIn steps p 2)) where
+    abbrev readBack : List ℕ → List Step
+    readBack w = stepsOf (stepsIn (linesOf w))
 
-    words-ends : (k p : ℕ) → n ≤ p → wordsIn i (linesOf (run piece p k)) ≡ []
-    unfolding run wordsIn linesOf linesFrom
-    words-ends zero p h = refl
-    words-ends (suc k) p h =
-        ap (wordsIn i) (end-line p (run piece (suc p) k) h) ∙ words-end (endOf d (p - n)) i (linesOf (run piece (suc p) k))
-        ∙ words-ends k (suc p) (omega arith)
+    one-step : (p : ℕ) (ls : List Line) → p < n → stepsOf (stepsIn (stepAt p ∷ ls)) ≡ getD (stepsOf steps) p (stepOf []) ∷ stepsOf (stepsIn ls)
+    unfolding stepsOf
+    one-step p ls h =
+        ap stepsOf (words-step (wordIn steps p 0) (wordIn steps p 1) (wordIn steps p 2) ls)
+        ∙ ap (λ (x : Step). x ∷ stepsOf (stepsIn ls)) (ap stepOf (back p) ∙ sym (List·getD-map stepOf steps p []))
 
-    pub words-all : (m : ℕ) → wordsIn i (linesOf (run piece 0 (n + m))) ≡ take n column
-    words-all m =
-        ap (λ (l : List ℕ). wordsIn i (linesOf l)) (run-append piece 0 n m) ∙ words-steps n 0 (run piece (0 + n) m) (omega arith)
-        ∙ ap (λ (l : List ℕ). take n column ++ l) (words-ends m (0 + n) (omega arith)) ∙ append-nil (take n column)
+    steps-steps : (k p : ℕ) (w : List ℕ) → p + k ≤ n → readBack (run piece p k ++ w) ≡ take k (drop p (stepsOf steps)) ++ readBack w
+    unfolding run stepsOf
+    steps-steps zero p w h = refl
+    steps-steps (suc k) p w h =
+        ap readBack (run-first k p w) ∙ ap (λ (ls : List Line). stepsOf (stepsIn ls)) (step-line p (run piece (suc p) k ++ w) (omega arith))
+        ∙ one-step p (linesOf (run piece (suc p) k ++ w)) (omega arith)
+        ∙ ap (λ (l : List Step). getD (stepsOf steps) p (stepOf []) ∷ l) (steps-steps k (suc p) w (omega arith))
+        ∙ ap (λ (l : List Step). take (suc k) l ++ readBack w) (sym (drop-cons (stepsOf steps) p (stepOf []) (omega (arith, length-map steps stepOf))))
+
+    steps-ends : (k p : ℕ) → n ≤ p → stepsIn (linesOf (run piece p k)) ≡ []
+    unfolding run stepsIn linesOf linesFrom
+    steps-ends zero p h = refl
+    steps-ends (suc k) p h =
+        ap stepsIn (end-line p (run piece (suc p) k) h) ∙ words-end (endOf d (p - n)) (linesOf (run piece (suc p) k))
+        ∙ steps-ends k (suc p) (omega arith)
+
+    pub steps-all : (m : ℕ) → readBack (run piece 0 (n + m)) ≡ take n (stepsOf steps)
+    unfolding stepsOf
+    steps-all m =
+        ap readBack (run-append piece 0 n m) ∙ steps-steps n 0 (run piece (0 + n) m) (omega arith)
+        ∙ ap (λ (l : List (List ℕ)). take n (stepsOf steps) ++ stepsOf l) (steps-ends m (0 + n) (omega arith)) ∙ append-nil (take n (stepsOf steps))
 
   -- ---- conclusions
 
@@ -156,17 +158,18 @@ module _ (steps : List (List ℕ)) (many : ℕ) (d : Conclusions) (literals : �
   whole-run : frames ≡ run (lineIn steps many d) 0 (n + min literals mostLiterals)
   whole-run = let e : itemCount steps many literals - 0 ≡ n + min literals mostLiterals = omega arith in ap (run (lineIn steps many d) 0) e
 
-  pub frames-words : Words steps → (i : ℕ) → i < 3 → wordsIn i (linesOf frames) ≡ take n (columnOf i steps)
-  frames-words h i l =
-      ap (λ (z : List ℕ). wordsIn i (linesOf z)) whole-run
-      ∙ words-all steps n d i (columnOf i steps) (omega (arith, length-map steps (λ (w : List ℕ). getD w i 0))) (λ p. word-back i p l) (min literals mostLiterals)
+  pub frames-steps : Words steps → stepsOf (stepsIn (linesOf frames)) ≡ take n (stepsOf steps)
+  frames-steps h =
+      ap (λ (z : List ℕ). stepsOf (stepsIn (linesOf z))) whole-run
+      ∙ steps-all steps n d (omega arith) words-back (min literals mostLiterals)
     where
-      word-back : (i p : ℕ) → i < 3
-          → wordOf (goodLine (stepAt steps n d p)) (length (stepAt steps n d p .bytes)) (digitsOf (stepAt steps n d p)) i ≡ getD (columnOf i steps) p 0
-      word-back zero p b = step-first (wordIn steps p 0) (wordIn steps p 1) (wordIn steps p 2) (h p 0) ∙ column-at 0 steps p
-      word-back (suc zero) p b = step-second (wordIn steps p 0) (wordIn steps p 1) (wordIn steps p 2) (h p 1) ∙ column-at 1 steps p
-      word-back (suc (suc zero)) p b = step-third (wordIn steps p 0) (wordIn steps p 1) (wordIn steps p 2) (h p 2) ∙ column-at 2 steps p
-      word-back (suc (suc (suc i))) p b = absurd (omega arith)
+      words-back : (p : ℕ) → wordsRead (stepAt steps n d p) ≡ wordsOf (wordIn steps p 0) (wordIn steps p 1) (wordIn steps p 2)
+      words-back p =
+          rw (
+            step-first (wordIn steps p 0) (wordIn steps p 1) (wordIn steps p 2) (h p 0),
+            step-second (wordIn steps p 0) (wordIn steps p 1) (wordIn steps p 2) (h p 1),
+            step-third (wordIn steps p 0) (wordIn steps p 1) (wordIn steps p 2) (h p 2),
+          )
 
   pub frames-conclusions : Narrows d → conclusionsIn (linesOf frames) ≡ conclusionsFrom (d .firsts) (d .differences) (min literals mostLiterals)
   frames-conclusions h =

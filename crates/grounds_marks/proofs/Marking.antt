@@ -10,8 +10,8 @@ use native.Mathlib.Omega.{arith}
 use lib.ListN.{getD, set, replicate, length, length-replicate}
 use borrow.Author.Needs.{needs}
 use borrow.Author.Tests.{lt-ltb, le-ltb, eq-eqb, ne-eqb, le-leb, lt-leb}
-use Rattle.grounding.specs.Limits.{draftSize}
-use Rattle.grounding.specs.Draft.{countIn, cellIn}
+use Rattle.grounds_laws.specs.Limits.{draftSize}
+use Rattle.grounds_laws.specs.Draft.{countIn, cellIn}
 use Rattle.grounds_batches.specs.Marking.{kept, noted, notedFour, markOne, marked, markedFor}
 
 module _ (limit r : ℕ) (marks : List ℕ) where

@@ -1,11 +1,11 @@
 // Which steps of a column one step rests on.
 use casts::usize_of_u16;
-use grounding::DRAFT;
+use grounds_laws::DRAFT;
 ghost use mathlib.Core.Path.{_≡_};
 ghost use Prim.Native.Nat.{_+_, _*_, _<_};
 ghost use lib.ListN.{length, replicate};
-ghost use Rattle.grounding.specs.Limits.{draftSize};
-ghost use Rattle.grounding.specs.Draft.{countIn};
+ghost use Rattle.grounds_laws.specs.Limits.{draftSize};
+ghost use Rattle.grounds_laws.specs.Draft.{countIn};
 ghost use Rattle.grounds_batches.specs.Marking.{noted, notedFour, markOne, marked, markedFor};
 
 // Number r is marked, where it is not past a limit.

@@ -21,6 +21,13 @@ ghost use Rattle.grounds_numbers.specs.Limits.{mostNumbers};
 ghost use Rattle.grounds_numbers.specs.Keys.{Holds, Keyed, Numbered};
 ghost use Rattle.grounds_numbers.specs.Entries.{entriesOf, entryCount, keyFor, Fillable, Filled, Room};
 
+// How many entries there are.
+pub fn entry_count(rows: &[u16], patterns: &[u16]) -> usize
+    ensures { λ r. ⌜ r ≡ entryCount (now (rows .entry)) (now (patterns .entry)) ⌝ }
+{
+    row_count(rows) + pattern_count(patterns)
+}
+
 // The context row of the variable that pattern row p is.
 fn chosen_row(patterns: &[u16], asg: [u16; VARIABLES], p: usize) -> usize
     requires { ⌜ p < patternCount (now patterns) ⌝ }
@@ -124,7 +131,7 @@ pub fn fill(
     requires { ⌜ Room (now rows) (now patterns) (now keys) (now numbers) ⌝ }
     ensures { λ _. ⌜ Filled (entriesOf (now (rows .entry)) asg (now (patterns .entry))) (now (keys .exit)) (now (numbers .exit)) (entryCount (now (rows .entry)) (now (patterns .entry))) ⌝ }
 {
-    let n = row_count(rows) + pattern_count(patterns);
+    let n = entry_count(rows, patterns);
     let mut e: usize = 0;
     while e < n {
         extend(rows, patterns, asg, keys, numbers, e);

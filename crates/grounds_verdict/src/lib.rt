@@ -13,6 +13,7 @@ use grounds_numbers::limits::ENTRY_RUN;
 use grounds_numbers::limits::PAIR;
 use grounds_numbers::limits::PAIR_RUN;
 use grounds_numbers::pairs::stated;
+use grounds_numbers::table::entry_count;
 use grounds_numbers::table::fill;
 use grounds_steps::WORDS;
 use literals::first_open;
@@ -20,7 +21,6 @@ use runs::limits::LITERALS;
 use runs::limits::ROW;
 use runs::limits::VARIABLES;
 use runs::literal_count;
-use runs::pattern_count;
 use runs::row_count;
 use steps::first_bad;
 ghost use mathlib.Core.Bool.{true, false};
@@ -170,12 +170,6 @@ fn no_pairs() -> [u16; PAIR_RUN]
     ensures { λ r. ⌜ r ≡ replicate pairRun 0 ⌝ }
 {
     [0; PAIR_RUN]
-}
-
-fn entry_count(rows: &[u16], patterns: &[u16]) -> usize
-    ensures { λ r. ⌜ r ≡ entryCount (now (rows .entry)) (now (patterns .entry)) ⌝ }
-{
-    row_count(rows) + pattern_count(patterns)
 }
 
 // The same in runs that are made here.

@@ -15,12 +15,12 @@ use lib.ListN.{length, getD, set, take, replicate, length-set, length-take, leng
 use borrow.Author.Needs.{needs}
 use borrow.Author.Tests.{eq-eqb, ne-eqb, eqb-true, eqb-false, lt-ltb, le-ltb}
 use Rattle.grounds_steps.specs.Steps.{wordsOf}
-use Rattle.grounding.specs.Limits.{draftSize, numberRun}
-use Rattle.grounding.specs.Draft.{countIn, cellIn, ownerAt}
-use Rattle.grounding.specs.Classes.{upto}
+use Rattle.grounds_laws.specs.Limits.{draftSize, numberRun}
+use Rattle.grounds_laws.specs.Draft.{countIn, cellIn, ownerAt}
+use Rattle.grounds_laws.specs.Classes.{upto}
 use Rattle.grounds_batches.specs.Marking.{kept, markedFor}
 use Rattle.grounds_batches.specs.Sending.{wordIn, numbersWord, Out, outOf, forgetOne, forgotten, written, sendOne, sent, resent, batch}
-use Rattle.grounds_words.specs.Emitting.{SidesAt, NumbersAt, Short, Reaches, SendsOne, Sends, Batched, Sendable}
+use Rattle.grounds_words.specs.Emitting.{SidesAt, NumbersAt, Short, Reaches, SendsOne, Sends, SendsAll, Batched, Sendable}
 
 -- ---- a step
 
@@ -147,7 +147,7 @@ module _ {rows from owner : ℕ} {cells marks : List ℕ} {n : ℕ} {start after
       go j l true q = subst (Short cells) (sym (eqb-true j i q)) (e .short)
       go j l false q = w .so .short j (omega (arith, eqb-false j i q))
 
-  pub through-done : n ≡ countIn cells → n ≤ i → Sends rows from owner cells marks (countIn cells) start after
+  pub through-done : n ≡ countIn cells → n ≤ i → SendsAll rows from owner cells marks start after
   through-done e h = let z : i ≡ countIn cells = omega (arith, w .reach) in subst (λ (m : ℕ). Sends rows from owner cells marks m start after) z (w .so)
 
 -- what a turn asks
@@ -251,7 +251,7 @@ marks-all cells marks after e l = omega (arith, ap length e, length-replicate {A
 
 pub batch-all : (rows from owner : ℕ) (cells : List ℕ) (s : ℕ) (news : List ℕ) (next : ℕ) (steps : List (List ℕ)) {cleared marks : List ℕ} {after : Out} → cleared ≡ forgotten from news
     → marks ≡ markedFor cells s
-    → Sends rows from owner cells marks (countIn cells) (outOf cleared next steps) after
+    → SendsAll rows from owner cells marks (outOf cleared next steps) after
     → Batched rows from owner cells s (outOf news next steps) after
 unfolding batch resent
 batch-all rows from owner cells s news next steps e f w = record { out = rw (sym e, sym f) (w .out); small = record { places = w .short } }

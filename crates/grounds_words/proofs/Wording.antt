@@ -8,7 +8,7 @@ use native.Mathlib.Omega.{arith}
 use lib.ListN.{length, getD, List·getD-eq-default}
 use borrow.Author.Needs.{needs}
 use borrow.Author.Tests.{lt-ltb, le-ltb, eq-eqb, ne-eqb}
-use Rattle.grounding.specs.Draft.{refOf}
+use Rattle.grounds_laws.specs.Draft.{refOf}
 use Rattle.grounds_batches.specs.Sending.{newOf, newIn, wordIn}
 use Rattle.grounds_words.specs.Emitting.{MarkOf, RowOf}
 

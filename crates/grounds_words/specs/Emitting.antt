@@ -7,6 +7,7 @@
 --     Reaches    step i, counted from 0, has its places in a column, in marks and among new numbers
 --     SendsOne   after step i
 --     Sends      after the first n steps
+--     SendsAll   after all steps of a column
 --     Kinded     the kind of each step of a column fits a byte
 --     Sendable   what is asked of a column, of new numbers and of how many steps are written
 --     Batched    after a batch
@@ -16,8 +17,8 @@ use mathlib.Core.Path.{_≡_}
 use Prim.Native.Nat.{ℕ, _+_, _*_, _≤_, _<_}
 use lib.ListN.{length, getD}
 use Rattle.grounds_steps.specs.Steps.{mostEach}
-use Rattle.grounding.specs.Limits.{draftSize}
-use Rattle.grounding.specs.Draft.{refOf, countIn, cellIn}
+use Rattle.grounds_laws.specs.Limits.{draftSize}
+use Rattle.grounds_laws.specs.Draft.{refOf, countIn, cellIn}
 use Rattle.grounds_batches.specs.Sending.{wordIn, numbersWord, Out, sendOne, sent, batch, Small}
 
 pub record MarkOf (rows x r : ℕ) : Type 0 where
@@ -56,6 +57,9 @@ module _ (rows from owner : ℕ) (cells : List ℕ) where
   pub record Sends (marks : List ℕ) (n : ℕ) (start after : Out) : Type 0 where
     pub out : after ≡ sent rows from owner cells marks n start
     pub short : (i : ℕ) → i < n → Short cells i
+
+  abbrev pub SendsAll : List ℕ → Out → Out → Type 0
+  SendsAll marks start after = Sends marks (countIn cells) start after
 
   pub record Batched (s : ℕ) (start after : Out) : Type 0 where
     pub out : after ≡ batch rows from owner cells s start

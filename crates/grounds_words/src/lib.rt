@@ -2,8 +2,8 @@
 pub mod words;
 
 use casts::usize_of_u16;
-use grounding::DRAFT;
-use grounding::NUMBER_RUN;
+use grounds_laws::DRAFT;
+use grounds_laws::NUMBER_RUN;
 use grounds_marks::mark;
 use grounds_steps::WORDS;
 use grounds_steps::put_step;
@@ -13,10 +13,9 @@ ghost use mathlib.Core.Path.{_≡_};
 ghost use Prim.Native.Nat.{_+_, _*_, _<_};
 ghost use lib.ListN.{length, getD, set, replicate};
 ghost use Rattle.grounds_steps.specs.Steps.{wordsOf};
-ghost use Rattle.grounding.specs.Limits.{draftSize};
-ghost use Rattle.grounding.specs.Draft.{countIn, cellIn, ownerAt};
+ghost use Rattle.grounds_laws.specs.Draft.{countIn, cellIn, ownerAt};
 ghost use Rattle.grounds_batches.specs.Sending.{outOf, forgotten};
-ghost use Rattle.grounds_words.specs.Emitting.{SidesAt, NumbersAt, Reaches, SendsOne, Kinded, Sendable, Sends, Batched};
+ghost use Rattle.grounds_words.specs.Emitting.{SidesAt, NumbersAt, Reaches, SendsOne, SendsAll, Sendable, Batched};
 
 // A number, with what its type says.
 fn held(x: u16) -> u16
@@ -127,7 +126,7 @@ fn send(
 ) -> usize
     requires { ⌜ Sendable (now cells) (now news) next ⌝ }
     requires { ⌜ countIn (now cells) < length (now marks) ⌝ }
-    ensures { λ r. ⌜ Sends rows from owner (now (cells .entry)) (now (marks .entry)) (countIn (now (cells .entry))) (outOf (now (news .entry)) next (now (steps .entry))) (outOf (now (news .exit)) r (now (steps .exit))) ⌝ }
+    ensures { λ r. ⌜ SendsAll rows from owner (now (cells .entry)) (now (marks .entry)) (outOf (now (news .entry)) next (now (steps .entry))) (outOf (now (news .exit)) r (now (steps .exit))) ⌝ }
 {
     let n = usize_of_u16(cells[0]);
     let mut last = next;

@@ -1,6 +1,7 @@
 pub mod Adding
 pub mod Agreeing
 pub mod Answering
+pub mod Controls
 pub mod Entered
 pub mod Entering
 pub mod Filling

@@ -6,14 +6,13 @@
 --     refused-positive  the finder's refusals are from 1 on
 --     writes-fit        no answer is that to what is unfit
 --     writes-many       for a breach the run holds as many steps as are told
---     columnOf          word i of each step
 --     writes-accepted   the checker accepts what is written for a breach
 -- Assumes nothing.
-use mathlib.Core.List.{List, [], map}
+use mathlib.Core.List.{List, []}
 use mathlib.Core.Path.{_≡_, refl, sym, ap, _∙_, subst}
 use Prim.Native.Nat.{ℕ, _≤_}
 use native.Mathlib.Omega.{arith}
-use lib.ListN.{length, getD, take, length-map}
+use lib.ListN.{length, take, length-map}
 use lib.Seq.{length-take-le}
 use Rattle.meaning.specs.Context.{Context}
 use Rattle.meaning.specs.Equality.{Consistent}
@@ -35,11 +34,11 @@ use Rattle.replies.specs.Told.{toldBy, toldOf}
 use Rattle.finder.specs.Claims.{Finds}
 use Rattle.replies.specs.declared.Outcome.{Outcome}
 use Rattle.replies.specs.declared.Outcome.the-variants as O
-use Rattle.prepared.proofs.Preparing.{found-never}
+use Rattle.ruling.proofs.Ruling.{found-never}
 use Rattle.finder.proofs.Judging.{told-one}
 use Rattle.grounds_steps.specs.Steps.{stepOf, stepsOf, mostSteps}
 use Rattle.writer.specs.Claims.{Answers, refuses, lacks, replies, Bare, stepsIn, ShownFor, Leaves, Writes}
-use Rattle.writer.specs.Drawing.{outcomeBy}
+use Rattle.writer.specs.Seeking.{outcomeBy}
 use Rattle.writer.specs.declared.Grounds.{Grounds}
 
 -- ---- the reply
@@ -83,10 +82,6 @@ told-breach : (n : ℕ) (y : Reply) → toldBy (O.Breach n) ≡ toldOf y → (a 
 told-breach n (breach a) e = (a, refl)
 told-breach n none e = absurd (let z : _≡_ {A = ℕ} 8 9 = cc in omega arith)
 told-breach n (refused f) e = absurd (let z : _≡_ {A = ℕ} 8 10 = cc in omega arith)
-
--- word i of each step
-abbrev pub columnOf : ℕ → List (List ℕ) → List ℕ
-columnOf i steps = map (λ (w : List ℕ). getD w i 0) steps
 
 module _ (text : List ℕ) (steps : List (List ℕ)) where
   pub writes-finds : (r : Grounds) (x : List (List ℕ)) → mostSteps ≤ length steps → Writes text steps r x

@@ -2,7 +2,7 @@
 pub mod Made
 pub mod Placing
 pub mod Showing
-pub mod Drawing
+pub mod Starting
 pub mod Turning
 pub mod Seeking
 pub mod Writing

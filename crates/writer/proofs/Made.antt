@@ -10,9 +10,9 @@ use Rattle.replies.specs.declared.Refusal.{Refusal}
 use Rattle.grounds_verdict.specs.declared.Conclusions.{Conclusions}
 use Rattle.replies.specs.declared.Outcome.{Outcome}
 use Rattle.replies.specs.declared.Outcome.the-variants.{Refused}
-use Rattle.runs.specs.Limits.{mostLiterals}
+use Rattle.runs.specs.Limits.{mostLiterals, mostVariables, unusedPlace}
 use Rattle.writer.specs.Claims.{noConclusions}
-use Rattle.writer.specs.Drawing.{bareWith, refusedWith}
+use Rattle.writer.specs.Seeking.{bareWith, refusedWith}
 use Rattle.writer.specs.declared.Grounds.{Grounds}
 
 pub none-made : record { firsts = replicate mostLiterals 0; differences = replicate mostLiterals 0 } ≡ noConclusions
@@ -24,7 +24,7 @@ pub bare-made : (outcome : Outcome) (places : List ℕ) (d : Conclusions) → d 
 unfolding bareWith
 bare-made outcome places d e = rw e
 
-pub refused-made : (x : Refusal) (r : Grounds) → r ≡ bareWith (Refused x) (replicate 4 255) → r ≡ refusedWith x
+pub refused-made : (x : Refusal) (r : Grounds) → r ≡ bareWith (Refused x) (replicate mostVariables unusedPlace) → r ≡ refusedWith x
 unfolding refusedWith
 refused-made x r e = e
 

@@ -1,32 +1,38 @@
--- The search's answer, with the grounds for a breach.
---     outcome-..       what is told for the search's answer
---     seek-broken      what is told for a breach breaks the rule
---     seek-clear, seek-drawn    no breach, and a breach with its grounds
---     seek-unfit       well-formed columns are never unfit
---     unfit-not-none   and if they were, that would not be told as none
+-- What the search tells is what the writer answers.
+--     outcome-..       the search's answer as it is told
+--     unfit-not-none   a failure would not be told as none
+--     seek-..          what is found is a breach, and its four places are those of the search; well-formed runs are never unfit
+--     in-..            the filled parts of runs
+--     mine             what these functions leave to show
 -- Assumes nothing.
 use mathlib.Core.List.{List, [], _∷_}
 use mathlib.Core.Path.{_≡_, refl, sym, ap, _∙_}
-use Prim.Native.Nat.{ℕ}
+use Prim.Native.Nat.{ℕ, _≤_}
 use native.Mathlib.Omega.{arith}
 use borrow.Author.Needs.{needs}
-use lib.ListN.{length}
-use Rattle.meaning.specs.Equality.{Promise}
-use Rattle.meaning.specs.Rules.{Found, found, nothing}
+use lib.ListN.{length, take}
+use Rattle.meaning.specs.Context.{Context}
+use Rattle.meaning.specs.Rules.{Clause, Found, found, nothing}
 use Rattle.meaning.specs.Replies.{breach, none, placesOf}
-use Rattle.ledger.specs.declared.ContextColumns.{ContextColumns}
-use Rattle.ledger.specs.declared.ClauseColumns.{ClauseColumns}
+use Rattle.runs.specs.Limits.{mostVariables}
+use Rattle.runs.specs.Runs.{contextOf, literalCount, clauseOf}
+use Rattle.runs.proofs.Saying.{length-rows}
+use Rattle.replies.specs.Told.{toldBy, toldOf}
+use Rattle.replies.specs.declared.Outcome.{Outcome}
+use Rattle.replies.specs.declared.Outcome.the-variants as O
+use Rattle.text_runs.specs.declared.Filled.{Filled}
 use Rattle.search.specs.Hunting.{answerOf}
 use Rattle.search.specs.Finding.{foundBy}
 use Rattle.search.specs.declared.Kind.{Kind}
 use Rattle.search.specs.declared.Kind.the-variants as S
 use Rattle.search.specs.declared.Reply.{Reply as Searched}
-use Rattle.prepared.specs.Claims.{said, asked, Asks}
-use Rattle.replies.specs.Told.{toldBy, toldOf}
-use Rattle.replies.specs.declared.Outcome.{Outcome}
-use Rattle.replies.specs.declared.Outcome.the-variants as O
-use Rattle.writer.specs.Drawing.{bareWith, Broken, Draws, outcomeBy, Seekable, Sought}
+use Rattle.hunting.specs.Laid.{Ready}
+use Rattle.grounds_verdict.specs.declared.Conclusions.{Conclusions}
+use Rattle.ruling.proofs.Saying.{part-long}
+use Rattle.writer.specs.Drawing.{Broken, Shows}
+use Rattle.writer.specs.Seeking.{bareWith, Draws, outcomeBy, Seekable, Sought, SeekableIn}
 use Rattle.writer.specs.declared.Grounds.{Grounds}
+use Rattle.writer.specs.declared.drawing.Support.{Support}
 use Rattle.writer.proofs.Placing.{placed-chosen, placed-holds}
 
 pub outcome-breach : (kind : Kind) (n : ℕ) → kind ≡ S.Breach n → O.Breach n ≡ outcomeBy kind
@@ -42,46 +48,69 @@ outcome-unfit kind e = rw e
 pub unfit-not-none : toldBy (outcomeBy S.Unfit) ≡ toldOf none → ⊥
 unfit-not-none e = let z : _≡_ {A = ℕ} 10 9 = cc in omega arith
 
-module _ (c : ContextColumns) (table : List ℕ) (k : ClauseColumns) (w : Seekable c table k) where
-  pub seek-asks : Asks c k
-  seek-asks = w .asks
+-- ---- a breach
 
-  pub seek-closed : Promise (said c) 255 table
-  seek-closed = w .closed
+pub shown-draws : (rows said patterns literals a : List ℕ) (n m many : ℕ) (d : Conclusions) (steps : List (List ℕ)) (s : Support) {steps′ : List (List ℕ)}
+    → Shows rows said patterns literals a steps s steps′
+    → m ≡ literalCount literals
+    → many ≡ s .steps
+    → d ≡ s .conclusions
+    → Draws rows said patterns literals n a steps (record { outcome = O.Breach n; places = a; steps = many; literals = m; conclusions = d }) steps′
+shown-draws rows said patterns literals a n m many d steps s w e f g = rw (e, f, g) (record { outcome = refl; places = refl; shown = w .shown (O.Breach n) })
 
-  module _ (x : Searched) (search-is : x ≡ answerOf (foundBy (said c) table (asked k))) where
-    answer-found : (q : Found) → foundBy (said c) table (asked k) ≡ q → (x .kind ≡ answerOf q .kind) × (x .places ≡ answerOf q .places)
+-- ---- what is found
+
+module _ (rows said patterns literals table : List ℕ) (w : Seekable rows said patterns literals table) where
+  abbrev c : Context
+  c = contextOf rows said
+
+  abbrev k : Clause
+  k = clauseOf patterns literals
+
+  pub seek-ready : Ready rows said patterns literals table
+  seek-ready = w .ready
+
+  module _ (x : Searched) (search-is : x ≡ answerOf (foundBy c table k)) where
+    answer-found : (q : Found) → foundBy c table k ≡ q → (x .kind ≡ answerOf q .kind) × (x .places ≡ answerOf q .places)
     answer-found q e = (ap (λ (y : Searched). y .kind) (search-is ∙ ap answerOf e), ap (λ (y : Searched). y .places) (search-is ∙ ap answerOf e))
 
     -- a breach that is told was found, and stands in the places
     told-found : (n : ℕ) → x .kind ≡ S.Breach n
-        → (a : List ℕ) × (foundBy (said c) table (asked k) ≡ found a) × (n ≡ length a) × (x .places ≡ placesOf (breach a))
+        → (a : List ℕ) × (foundBy c table k ≡ found a) × (n ≡ length a) × (x .places ≡ placesOf (breach a))
     unfolding answerOf placesOf
-    told-found n e = go (foundBy (said c) table (asked k)) refl
+    told-found n e = go (foundBy c table k) refl
       where
-        go : (q : Found) → foundBy (said c) table (asked k) ≡ q
-            → (a : List ℕ) × (foundBy (said c) table (asked k) ≡ found a) × (n ≡ length a) × (x .places ≡ placesOf (breach a))
+        go : (q : Found) → foundBy c table k ≡ q
+            → (a : List ℕ) × (foundBy c table k ≡ found a) × (n ≡ length a) × (x .places ≡ placesOf (breach a))
         go (found a) f = let z : S.Breach n ≡ S.Breach (length a) = sym e ∙ answer-found (found a) f .0 in (a, f, cc, answer-found (found a) f .1)
         go nothing f = absurd (let z : S.Breach n ≡ S.Clear = sym e ∙ answer-found nothing f .0 in let o : _≡_ {A = ℕ} 0 1 = cc in omega arith)
 
-    pub seek-broken : (n : ℕ) → x .kind ≡ S.Breach n → Broken c k (x .places)
+    pub seek-broken : (n : ℕ) → x .kind ≡ S.Breach n → length (x .places) ≡ mostVariables → Broken rows said patterns literals (x .places)
     unfolding placesOf
-    seek-broken n e =
-        let t : (a : List ℕ) × (foundBy (said c) table (asked k) ≡ found a) × (n ≡ length a) × (x .places ≡ placesOf (breach a)) = told-found n e in
-        rw (t .3)
+    seek-broken n e four =
+        let t : (a : List ℕ) × (foundBy c table k ≡ found a) × (n ≡ length a) × (x .places ≡ placesOf (breach a)) = told-found n e in
         record {
-          asks = w .asks;
-          chosen = placed-chosen (said c) (asked k) (t .0) (w .breach (t .0) (t .1));
-          holds = placed-holds (said c) (asked k) (t .0) (w .breach (t .0) (t .1));
+          context = w .ready .context;
+          rule = w .ready .rule;
+          chosen =
+              record {
+                four = four;
+                chosen =
+                    rw (t .3)
+                    (λ v h.
+                    let q = placed-chosen c k (t .0) (w .breach (t .0) (t .1)) v h in
+                    (q .0, omega (arith, q .1, length-rows rows)));
+              };
+          holds = rw (t .3) (placed-holds c k (t .0) (w .breach (t .0) (t .1)));
         }
 
     module _ (steps : List (List ℕ)) where
       pub seek-clear : x .kind ≡ S.Clear → (o : Outcome) → o ≡ outcomeBy (x .kind) → (y : Grounds) → y ≡ bareWith o (x .places)
-          → Sought c table k steps y steps
+          → Sought rows said patterns literals table steps y steps
       unfolding bareWith placesOf answerOf
-      seek-clear e o told y q = rw q (go (foundBy (said c) table (asked k)) refl)
+      seek-clear e o told y q = rw q (go (foundBy c table k) refl)
         where
-          go : (f : Found) → foundBy (said c) table (asked k) ≡ f → Sought c table k steps (bareWith o (x .places)) steps
+          go : (f : Found) → foundBy c table k ≡ f → Sought rows said patterns literals table steps (bareWith o (x .places)) steps
           go (found a) f = absurd (let z : S.Clear ≡ S.Breach (length a) = sym e ∙ answer-found (found a) f .0 in let i : _≡_ {A = ℕ} 0 1 = cc in omega arith)
           go nothing f =
               record {
@@ -92,19 +121,19 @@ module _ (c : ContextColumns) (table : List ℕ) (k : ClauseColumns) (w : Seekab
                 leaves = record { count = refl; literals = refl; conclusions = refl; words = refl };
               }
 
-      pub seek-unfit : x .kind ≡ S.Unfit → {y : Grounds} → Sought c table k steps y steps
+      pub seek-unfit : x .kind ≡ S.Unfit → {y : Grounds} → Sought rows said patterns literals table steps y steps
       unfolding answerOf
-      seek-unfit e = absurd (go (foundBy (said c) table (asked k)) refl)
+      seek-unfit e = absurd (go (foundBy c table k) refl)
         where
-          go : (f : Found) → foundBy (said c) table (asked k) ≡ f → ⊥
+          go : (f : Found) → foundBy c table k ≡ f → ⊥
           go (found a) f = let z : S.Unfit ≡ S.Breach (length a) = sym e ∙ answer-found (found a) f .0 in let i : _≡_ {A = ℕ} 0 1 = cc in omega arith
           go nothing f = let z : S.Unfit ≡ S.Clear = sym e ∙ answer-found nothing f .0 in let i : _≡_ {A = ℕ} 0 1 = cc in omega arith
 
       pub seek-drawn : (n : ℕ) → x .kind ≡ S.Breach n → {y : Grounds} {steps′ : List (List ℕ)}
-          → Draws c k n (x .places) steps y steps′
-          → Sought c table k steps y steps′
+          → Draws rows said patterns literals n (x .places) steps y steps′
+          → Sought rows said patterns literals table steps y steps′
       seek-drawn n e d =
-          let t : (a : List ℕ) × (foundBy (said c) table (asked k) ≡ found a) × (n ≡ length a) × (x .places ≡ placesOf (breach a)) = told-found n e in
+          let t : (a : List ℕ) × (foundBy c table k ≡ found a) × (n ≡ length a) × (x .places ≡ placesOf (breach a)) = told-found n e in
           record {
             what = found (t .0);
             finds = t .1;
@@ -113,4 +142,39 @@ module _ (c : ContextColumns) (table : List ℕ) (k : ClauseColumns) (w : Seekab
             leaves = d .shown;
           }
 
-pub ruleset mine = (needs, outcome-breach, outcome-clear, outcome-unfit, seek-asks, seek-closed, seek-broken, seek-clear, seek-unfit, seek-drawn)
+-- ---- the filled parts
+
+module _ (rows said patterns literals : List ℕ) (filled : Filled) (table : List ℕ) (w : SeekableIn rows said patterns literals filled table) where
+  pub in-rows : filled .rows ≤ length rows
+  in-rows = w .rows-inside
+
+  pub in-said : filled .said ≤ length said
+  in-said = w .said-inside
+
+  pub in-patterns : filled .patterns ≤ length patterns
+  in-patterns = w .patterns-inside
+
+  pub in-literals : filled .literals ≤ length literals
+  in-literals = w .literals-inside
+
+  pub in-seekable : Seekable (take (filled .rows) rows) (take (filled .said) said) (take (filled .patterns) patterns) (take (filled .literals) literals) table
+  in-seekable = w .seekable
+
+pub ruleset mine = (
+  needs,
+  part-long,
+  outcome-breach,
+  outcome-clear,
+  outcome-unfit,
+  shown-draws,
+  seek-ready,
+  seek-broken,
+  seek-clear,
+  seek-unfit,
+  seek-drawn,
+  in-rows,
+  in-said,
+  in-patterns,
+  in-literals,
+  in-seekable,
+)

@@ -1,263 +1,240 @@
 -- One literal after the other, as the code writes it.
---     stands-is     what is at hand is what is written
 --     turn-..       the turn of one literal
 --     Turning       a loop over literals: what is at hand after the first so many
 --     turning-..    its start, its next turn and its end; what a turn asks; the run keeps its length
---     draw-..       the whole
 --     mine          what these functions leave to show
 -- Assumes nothing.
 use mathlib.Core.Bool.{Bool, true, false}
 use mathlib.Core.List.{List}
-use mathlib.Core.Path.{_≡_, refl, sym, ap, ap₂, _∙_, subst, subst₂}
+use mathlib.Core.Path.{_≡_, refl, sym, ap, ap₂, _∙_, subst}
 use Prim.Native.Nat.{ℕ, suc, _+_, _≤_, _<_}
 use native.Mathlib.Numerals.{add-one}
 use native.Mathlib.Omega.{arith}
 use borrow.Author.Needs.{needs}
 use borrow.Author.Tests.{ltb-true, ltb-false}
 use lib.Dec.{ltb}
-use lib.ListN.{length, getD, set, replicate, length-replicate}
+use lib.ListN.{length, getD, set, replicate, length-set, length-replicate}
 use Rattle.meaning.specs.Grounds.{literalAt}
-use Rattle.ledger.specs.declared.ContextColumns.{ContextColumns}
-use Rattle.ledger.specs.declared.ClauseColumns.{ClauseColumns}
-use Rattle.prepared.specs.Claims.{said, asked}
-use Rattle.replies.specs.declared.Outcome.the-variants.{Breach}
-use Rattle.grounds_verdict.specs.declared.Conclusions.{Conclusions}
-use Rattle.numbering.specs.declared.table.Table.{Table}
-use Rattle.grounding.specs.Draft.{countIn}
-use Rattle.grounding.specs.Classes.{Left, upto}
-use Rattle.grounding.specs.Concluding.{Said, ownerOf}
+use Rattle.meaning.proofs.Entries.{length-entries}
+use Rattle.runs.specs.Limits.{mostLiterals}
+use Rattle.runs.specs.Runs.{rowCount, rowsOf, literalCount, literalsOf}
+use Rattle.grounds_numbers.specs.Limits.{mostNumbers}
+use Rattle.grounds_numbers.specs.Pairs.{pairCount, pairsIn}
+use Rattle.grounds_laws.specs.Limits.{draftRun, numberRun}
+use Rattle.grounds_laws.specs.Classes.{stateOf, upto}
+use Rattle.grounds_laws.specs.Concluding.{Said, said, resumed, ownerOf}
+use Rattle.grounds_classes.specs.Settling.{Entered}
+use Rattle.grounds_conclusions.specs.Saying.{Says, sayingBy}
 use Rattle.grounds_batches.specs.Sending.{newOf, Out, outOf, batch, Small}
 use Rattle.grounds_batches.specs.Drawing.{Drawn, blankDrawn, drawSaid, drawOne, drawnTo}
-use Rattle.concluding.specs.Saying.{Says}
 use Rattle.grounds_words.specs.Emitting.{Batched, Sendable}
-use Rattle.runs.specs.Limits.{mostRows, mostPatterns, mostLiterals}
-use Rattle.grounds_steps.specs.Steps.{mostSteps}
-use Rattle.grounding.specs.Limits.{numberRun}
-use Rattle.writer.specs.Claims.{Shown}
-use Rattle.writer.specs.Drawing.{Tabled, Fits, settledOf, saidFor, saidOf, turnOf, turnsOf, Shares, Stands, Sayable, Turned, Drawable, Drew, endsWith, Draws}
-use Rattle.writer.proofs.Drawing.{rows-long, patterns-long, literals-long, tabled-fits, close-blank}
-use Rattle.writer.proofs.Showing.{Far, far-to, far-sendable, drawn-shown}
-
-pub stands-is : {cells ends differences : List ℕ} {out : Out} {d : Drawn} → Stands cells out ends differences d
-    → _≡_ {A = Drawn} (record { cells = cells; out = out; ends = ends; differences = differences }) d
-stands-is w = rw (w .column, w .written, w .steps, w .stated)
+use Rattle.writer.specs.Drawing.{askedOf, saidTo, Sayable, turnsTo, Drawable, Drew}
+use Rattle.writer.specs.declared.drawing.Asked.{Asked}
+use Rattle.writer.proofs.Showing.{said-run, owner-run, meantTo, turns-are, meantAt, said-is, Far, far-to, far-column, far-sendable}
 
 -- ---- one turn
 
-module _ (c : ContextColumns) (k : ClauseColumns) (t : Table) (j : ℕ) {cells news : List ℕ} {next : ℕ} (w : Sayable c k t j cells news next) where
-  pub turn-fits : Fits c k t
-  turn-fits = w .fits
+module _ (keys apart : List ℕ) (q : Asked) (table : List ℕ) (from : ℕ) (cells news : List ℕ) (next : ℕ) (w : Sayable keys apart q table from cells news next) where
+  pub turn-entered : Entered keys
+  turn-entered = w .entered
 
-  pub turn-inside : j < k .literals
-  turn-inside = w .inside
+  pub turn-few : pairCount apart + 1 < mostNumbers
+  turn-few = w .few
 
-  pub turn-literals : k .literals ≤ mostLiterals
-  turn-literals = w .fits .asks .clause .literals-few
+  pub turn-start : 0 < length cells
+  turn-start = w .start
 
-  pub turn-place : j < mostLiterals
-  turn-place = omega (arith, turn-literals, w .inside)
-
-  pub turn-sendable : {after : List ℕ} {first difference : ℕ} → Says after first difference (saidOf (said c) (asked k) t j cells) → Sendable after news next
+  pub turn-sendable : {after : List ℕ} {first difference : ℕ} → Says after first difference (saidTo keys apart q table from cells) → Sendable after news next
   turn-sendable s = subst (λ (l : List ℕ). Sendable l news next) (sym (s .column)) (w .sendable)
 
-batch-alike : (o : Out) {rows rows′ from from′ owner owner′ s s′ : ℕ} {cells cells′ : List ℕ} → rows ≡ rows′ → from ≡ from′ → owner ≡ owner′ → cells ≡ cells′ → s ≡ s′
-    → batch rows from owner cells s o ≡ batch rows′ from′ owner′ cells′ s′ o
-batch-alike o e f g h i = rw (e, f, g, h, i)
+pub turn-says : (keys apart : List ℕ) (q : Asked) (table : List ℕ) (from : ℕ) (cells : List ℕ) {after : List ℕ} {first difference : ℕ}
+    → Says after first difference (sayingBy keys apart (q .kind) (q .left) (q .right) (stateOf (set cells 0 from) table))
+    → Says after first difference (saidTo keys apart q table from cells)
+unfolding saidTo
+turn-says keys apart q table from cells s = s
 
-pub turn-turned : (c : ContextColumns) (k : ClauseColumns) (t : Table) (j : ℕ) (d : Drawn) {classes cells news : List ℕ} {steps : List (List ℕ)}
-    {from shared first difference owner next end : ℕ} → Shares (said c) (asked k) t classes from
-    → Says cells first difference (saidOf (said c) (asked k) t j (d .cells))
-    → owner ≡ ownerOf j (literalAt (asked k .literals) j)
-    → shared ≡ from
-    → Batched (c .rows) shared owner cells first (d .out) (outOf news next steps)
+pub turn-long : (cells after : List ℕ) (x : ℕ) → length after ≡ length (set cells 0 x) → length after ≡ length cells
+turn-long cells after x e = e ∙ length-set cells 0 x
+
+pub turn-batched : {n from shared owner first : ℕ} {cells : List ℕ} {before after : Out} → shared ≡ from → Batched n shared owner cells first before after
+    → Batched n from owner cells first before after
+turn-batched {n} {from} {shared} {owner} {first} {cells} {before} {after} e w = subst (λ (x : ℕ). Batched n x owner cells first before after) e w
+
+batch-alike : (o : Out) (n from owner : ℕ) {s s′ : ℕ} {cells cells′ : List ℕ} → cells ≡ cells′ → s ≡ s′
+    → batch n from owner cells s o ≡ batch n from owner cells′ s′ o
+batch-alike o n from owner e f = rw (e, f)
+
+turn-made : (n j : ℕ) (before firsts differences : List ℕ) {from owner first difference next end : ℕ} {cells news : List ℕ} {steps : List (List ℕ)} {out : Out} {s : Said} → Says cells first difference s
+    → Batched n from owner cells first out (outOf news next steps)
     → end ≡ newOf news first
-    → Turned (said c) (asked k) t j d cells (outOf news next steps) (set (d .ends) j end) (set (d .differences) j difference)
-unfolding turnOf drawOne drawSaid saidFor saidOf
-turn-turned c k t j d {classes} {cells} {news} {steps} {from} {shared} {first} {difference} {owner} {next} {end} shares says own same sent e =
-    record {
-      stands =
-          record {
-            column = says .column;
-            written = out;
-            steps = ap (set (d .ends) j) (e ∙ ap₂ newOf (ap (λ (o : Out). o .news) out) (says .step));
-            stated = ap (set (d .differences) j) (says .stated);
-          };
-      small = subst Small (says .column) (sent .small);
-    }
-  where
-    s : Said
-    s = saidOf (said c) (asked k) t j (d .cells)
+    → record { cells = cells; out = outOf news next steps; ends = set firsts j end; differences = set differences j difference }
+    ≡ drawSaid n from owner j s (record { cells = before; out = out; ends = firsts; differences = differences })
+unfolding drawSaid
+turn-made n j before firsts differences {from} {owner} {first} {difference} {next} {end} {cells} {news} {steps} {out} {s} says sends e =
+    let o : outOf news next steps ≡ batch n from owner (s .cells) (s .first) out = sends .out ∙ batch-alike out n from owner (says .column) (says .step) in
+    rw (says .column, says .stated, e ∙ ap₂ newOf (ap (λ (x : Out). x .news) o) (says .step), o)
 
-    out : outOf news next steps
-        ≡ batch (length (said c .rows)) (countIn (settledOf (said c) (asked k) t .cells)) (ownerOf j (literalAt (asked k .literals) j)) (s .cells) (s .first) (d .out)
-    out = sent .out ∙ batch-alike (d .out) (sym (rows-long c)) (same ∙ shares .many) own (says .column) (says .step)
+draw-alike : (n j : ℕ) {from from′ owner owner′ : ℕ} {s s′ : Said} {d d′ : Drawn} → from ≡ from′ → owner ≡ owner′ → s ≡ s′ → d ≡ d′
+    → drawSaid n from owner j s d ≡ drawSaid n from′ owner′ j s′ d′
+draw-alike n j e f g h = rw (e, f, g, h)
 
 -- ---- all of them
 
-module _ (c : ContextColumns) (k : ClauseColumns) (t : Table) (steps : List (List ℕ)) where
+module _ (keys ns apart literals : List ℕ) (n : ℕ) (cells₀ table : List ℕ) (steps₀ : List (List ℕ)) where
   abbrev to : ℕ → Drawn
-  to j = turnsOf (said c) (asked k) t j steps
+  to = turnsTo keys ns apart literals n cells₀ table steps₀
 
-  pub record Turning (j : ℕ) (cells : List ℕ) (out : Out) (ends differences : List ℕ) : Type 0 where
-    pub stands : Stands cells out ends differences (to j)
-    pub small : (i : ℕ) → i < j → Small (saidOf (said c) (asked k) t i (to i .cells) .cells)
-    pub reach : j ≤ k .literals
-    pub few : k .literals ≤ mostLiterals
+  abbrev saidAt : ℕ → List ℕ → Said
+  saidAt j column = saidTo keys apart (askedOf ns literals n j) table (getD cells₀ 0 0) column
 
-  pub turning-start : {cells classes news ends differences : List ℕ} → Drawable c k t steps → Left cells classes (settledOf (said c) (asked k) t) → news ≡ replicate numberRun 0
-      → ends ≡ replicate mostLiterals 0
+  -- of so many literals, and from so many shared steps on
+  pub record Turning (many from j : ℕ) (cells : List ℕ) (out : Out) (firsts differences : List ℕ) : Type 0 where
+    pub stands : record { cells = cells; out = out; ends = firsts; differences = differences } ≡ to j
+    pub small : (i : ℕ) → i < j → Small (saidAt i (to i .cells) .cells)
+    pub reach : j ≤ many
+    pub count : many ≡ literalCount literals
+    pub shared : from ≡ getD cells₀ 0 0
+
+  pub turning-start : {many from : ℕ} {news firsts differences : List ℕ} → many ≡ literalCount literals → from ≡ getD cells₀ 0 0
+      → news ≡ replicate numberRun 0
+      → firsts ≡ replicate mostLiterals 0
       → differences ≡ replicate mostLiterals 0
-      → Turning 0 cells (outOf news 0 steps) ends differences
-  unfolding turnsOf drawnTo upto blankDrawn
-  turning-start d w e f g =
-      record {
-        stands = record { column = w .column; written = ap (λ (l : List ℕ). outOf l 0 steps) e; steps = f; stated = g };
-        small = λ i h. absurd (omega arith);
-        reach = omega arith;
-        few = d .tabled .broken .asks .clause .literals-few;
-      }
+      → Turning many from 0 cells₀ (outOf news 0 steps₀) firsts differences
+  unfolding turnsTo drawnTo upto blankDrawn
+  turning-start c d e f g =
+      record { stands = rw (e, f, g); small = λ i h. absurd (omega arith); reach = omega arith; count = c; shared = d }
 
-  pub turning-next : {j : ℕ} {cells ends differences cells₁ ends₁ differences₁ : List ℕ} {out out₁ : Out} → Turning j cells out ends differences → j < k .literals
-      → Turned (said c) (asked k) t j (record { cells = cells; out = out; ends = ends; differences = differences }) cells₁ out₁ ends₁ differences₁
-      → Turning (j + 1) cells₁ out₁ ends₁ differences₁
-  unfolding turnsOf turnOf drawnTo upto
-  turning-next {j} {cells} {ends} {differences} {cells₁} {ends₁} {differences₁} {out} {out₁} w h e =
-      rw add-one
-      record {
-        stands = after .stands;
-        small = λ i l. go i l (ltb i j) refl;
-        reach = omega arith;
-        few = w .few;
-      }
-    where
-      after : Turned (said c) (asked k) t j (to j) cells₁ out₁ ends₁ differences₁
-      after = subst (λ (d : Drawn). Turned (said c) (asked k) t j d cells₁ out₁ ends₁ differences₁) (stands-is (w .stands)) e
+  module _ (w : Drawable keys ns apart literals n cells₀ table steps₀) {many from j : ℕ} {cells news firsts differences : List ℕ} {next : ℕ} {steps : List (List ℕ)}
+      (at : Turning many from j cells (outOf news next steps) firsts differences) where
+    column : cells ≡ to j .cells
+    column = ap (λ (d : Drawn). d .cells) (at .stands)
 
-      go : (i : ℕ) → i < suc j → (b : Bool) → ltb i j ≡ b → Small (saidOf (said c) (asked k) t i (to i .cells) .cells)
-      go i l true f = w .small i (ltb-true i j f)
-      go i l false f =
-          let z : j ≡ i = omega (arith, ltb-false i j f) in subst (λ (x : ℕ). Small (saidOf (said c) (asked k) t x (to x .cells) .cells)) z (after .small)
+    far : Far keys ns apart literals n cells₀ table steps₀ w j
+    far = far-to keys ns apart literals n cells₀ table steps₀ w j (omega (arith, at .reach, at .count)) (at .small)
 
-  pub turning-done : {j : ℕ} {cells news ends differences : List ℕ} {next : ℕ} {steps′ : List (List ℕ)} → Turning j cells (outOf news next steps′) ends differences
-      → k .literals ≤ j
-      → Drew (said c) (asked k) t steps next steps′ ends differences
-  turning-done {j} {cells} {news} {ends} {differences} {next} {steps′} w h =
-      let z : j ≡ length (asked k .literals) = omega (arith, w .reach, literals-long k) in
+    turns : to j ≡ meantTo keys ns apart literals n cells₀ table steps₀ w j
+    turns = turns-are keys ns apart literals n cells₀ table steps₀ w j
+
+    -- the run, the new numbers and the column keep their lengths
+    pub turning-long : length steps ≡ length steps₀
+    turning-long = ap (λ (d : Drawn). length (d .out .steps)) (at .stands ∙ turns) ∙ far .long
+
+    pub turning-numbers : {news₀ : List ℕ} → news₀ ≡ replicate numberRun 0 → length news ≡ length news₀
+    turning-numbers e =
+        ap (λ (d : Drawn). length (d .out .news)) (at .stands ∙ turns) ∙ far .numbers ∙ sym (ap length e ∙ length-replicate {A = ℕ} numberRun 0)
+
+    column-long : length cells ≡ draftRun
+    column-long = ap (λ (d : Drawn). length (d .cells)) (at .stands ∙ turns) ∙ far-column keys ns apart literals n cells₀ table steps₀ w j far
+
+    module _ (h : j < many) where
+      pub turning-inside : j < literalCount literals
+      turning-inside = omega (arith, at .count)
+
+      pub turning-place : j < mostLiterals
+      turning-place = omega (arith, w .literals-few, at .count)
+
+      sendable : Sendable (saidAt j cells .cells) news next
+      sendable =
+          subst (λ (x : Said). Sendable (x .cells) news next) (sym (said-is keys ns apart literals n cells₀ table steps₀ w j turning-inside cells))
+          (subst (λ (d : Drawn). Sendable (meantAt keys ns apart literals n cells₀ table steps₀ w j (d .cells) .cells) (d .out .news) (d .out .next)) (sym (at .stands ∙ turns))
+          (far-sendable keys ns apart literals n cells₀ table steps₀ w j turning-inside far))
+
+      module _ {q : Asked} (eq : q ≡ askedOf ns literals n j) where
+        pub turning-sayable : Sayable keys apart q table from cells news next
+        turning-sayable =
+            rw (eq, at .shared)
+            (record { entered = w .entered; few = omega (arith, w .pairs-few); start = omega (arith, column-long); sendable = sendable })
+
+        module _ {cells₁ news₁ : List ℕ} {steps₁ : List (List ℕ)} {first difference next₁ end : ℕ} (says : Says cells₁ first difference (saidTo keys apart q table from cells))
+            (sends : Batched n from (q .owner) cells₁ first (outOf news next steps) (outOf news₁ next₁ steps₁)) (ee : end ≡ newOf news₁ first) where
+          abbrev after : Drawn
+          after = record { cells = cells₁; out = outOf news₁ next₁ steps₁; ends = set firsts j end; differences = set differences j difference }
+
+          said-same : saidTo keys apart q table from cells ≡ said (rowCount keys) (rowsOf keys) ns n (pairsIn apart) (literalAt (literalsOf literals) j) (resumed (stateOf cells₀ table) (to j .cells))
+          said-same = rw (eq, at .shared, column) (sym (said-run keys ns apart literals n cells₀ table j turning-inside (to j .cells)))
+
+          owner-same : q .owner ≡ ownerOf j (literalAt (literalsOf literals) j)
+          owner-same = ap (λ (x : Asked). x .owner) eq ∙ sym (owner-run keys ns apart literals n cells₀ table j turning-inside)
+
+          next-stands : after ≡ to (suc j)
+          unfolding turnsTo drawnTo upto drawOne
+          next-stands = turn-made n j cells firsts differences says sends ee ∙ draw-alike n j (at .shared) owner-same said-same (at .stands)
+
+          next-small : (i : ℕ) → i < suc j → (b : Bool) → ltb i j ≡ b → Small (saidAt i (to i .cells) .cells)
+          next-small i l true e = at .small i (ltb-true i j e)
+          next-small i l false e =
+              let z : j ≡ i = omega (arith, ltb-false i j e) in
+              subst (λ (x : ℕ). Small (saidAt x (to x .cells) .cells)) z
+              (subst Small (says .column ∙ ap (λ (x : Said). x .cells) (said-same ∙ said-run keys ns apart literals n cells₀ table j turning-inside (to j .cells))) (sends .small))
+
+          after-turn : Turning many from (j + 1) cells₁ (outOf news₁ next₁ steps₁) (set firsts j end) (set differences j difference)
+          after-turn = rw add-one (record { stands = next-stands; small = λ i l. next-small i l (ltb i j) refl; reach = omega arith; count = at .count; shared = at .shared })
+
+  -- the column that is left says what the turn was, and so the others
+  pub turning-next : {many from j first difference end next next₁ : ℕ} {cells news firsts differences cells₁ news₁ : List ℕ} {steps steps₁ : List (List ℕ)} {q : Asked}
+      → Says cells₁ first difference (saidTo keys apart q table from cells)
+      → Batched n from (q .owner) cells₁ first (outOf news next steps) (outOf news₁ next₁ steps₁)
+      → Turning many from j cells (outOf news next steps) firsts differences
+      → end ≡ newOf news₁ first
+      → q ≡ askedOf ns literals n j
+      → j < many
+      → Drawable keys ns apart literals n cells₀ table steps₀
+      → Turning many from (j + 1) cells₁ (outOf news₁ next₁ steps₁) (set firsts j end) (set differences j difference)
+  turning-next says sends at ee eq h w = after-turn w at h eq says sends ee
+
+  pub turning-done : {many from j next : ℕ} {cells news firsts differences : List ℕ} {steps : List (List ℕ)} → Turning many from j cells (outOf news next steps) firsts differences
+      → many ≤ j
+      → Drew keys ns apart literals n cells₀ table steps₀ (record { steps = next; conclusions = record { firsts = firsts; differences = differences } }) steps
+  turning-done {many} {from} {j} {next} {cells} {news} {firsts} {differences} {steps} w h =
+      let z : j ≡ literalCount literals = omega (arith, w .reach, w .count) in
+      let e : record { cells = cells; out = outOf news next steps; ends = firsts; differences = differences } ≡ to (literalCount literals) = w .stands ∙ ap to z in
       record {
-        cells = cells;
-        news = news;
-        stands = subst (λ (i : ℕ). Stands cells (outOf news next steps′) ends differences (to i)) z (w .stands);
+        many = ap (λ (d : Drawn). d .out .next) e;
+        words = ap (λ (d : Drawn). d .out .steps) e;
+        firsts = ap (λ (d : Drawn). d .ends) e;
+        differences = ap (λ (d : Drawn). d .differences) e;
         small = λ i l. w .small i (omega arith);
       }
 
--- closed classes, at the start
-pub turning-shares : (c : ContextColumns) (k : ClauseColumns) (t : Table) {cells classes : List ℕ} {from : ℕ} → Left cells classes (settledOf (said c) (asked k) t)
-    → from ≡ getD cells 0 0
-    → Shares (said c) (asked k) t classes from
-turning-shares c k t w e = record { closed = w .classes; many = e ∙ ap countIn (w .column) }
+module _ {keys ns apart literals : List ℕ} {n : ℕ} {cells₀ table : List ℕ} {steps₀ : List (List ℕ)} (w : Drawable keys ns apart literals n cells₀ table steps₀) where
+  pub drawable-inside : n ≤ length ns
+  drawable-inside = omega (arith, w .rows, w .filled .numbers-long, length-entries (w .context .rows) (w .places) (w .rule .patterns))
 
-module _ (c : ContextColumns) (k : ClauseColumns) (a : List ℕ) (t : Table) (w : Tabled c k a t) (steps : List (List ℕ)) (room : mostSteps ≤ length steps) where
-  few-rows : length (said c .rows) ≤ mostRows
-  few-rows = omega (arith, rows-long c, w .broken .asks .held .fit .rows-few)
+  start-long : length cells₀ ≡ draftRun
+  start-long = column-long keys ns apart literals n cells₀ table steps₀ w (turning-start keys ns apart literals n cells₀ table steps₀ refl refl refl refl refl)
 
-  few-patterns : length (asked k .patterns) ≤ mostPatterns
-  few-patterns = omega (arith, patterns-long k, w .broken .asks .clause .patterns-few)
+  pub drawable-start : 0 < length cells₀
+  drawable-start = omega (arith, start-long)
 
-  few-literals : length (asked k .literals) ≤ mostLiterals
-  few-literals = omega (arith, literals-long k, w .broken .asks .clause .literals-few)
+  pub drawable-few : {many : ℕ} → many ≡ literalCount literals → many ≤ mostLiterals
+  drawable-few e = omega (arith, w .literals-few)
 
-  module _ (j : ℕ) {cells ends differences : List ℕ} {out : Out} (at : Turning c k t steps j cells out ends differences) where
-    far : Far (said c) (asked k) a (w .broken .asks .formed) (w .broken .chosen) (w .broken .holds) t (w .filled) few-rows few-patterns few-literals steps room j
-    far =
-        far-to (said c) (asked k) a (w .broken .asks .formed) (w .broken .chosen) (w .broken .holds) t (w .filled) few-rows few-patterns few-literals steps room j
-        (omega (arith, at .reach, literals-long k))
-        (at .small)
-
-    inside : j < k .literals → j < length (asked k .literals)
-    inside h = omega (arith, literals-long k)
-
-    long : length (out .steps) ≡ length steps
-    long = ap (λ (o : Out). length (o .steps)) (at .stands .written) ∙ far .long
-
-    numbers : length (out .news) ≡ numberRun
-    numbers = ap (λ (o : Out). length (o .news)) (at .stands .written) ∙ far .numbers
-
-    sayable : j < k .literals → Sayable c k t j cells (out .news) (out .next)
-    sayable h =
-        rw (at .stands .column, at .stands .written)
-        (record {
-          fits = tabled-fits c k t a w;
-          inside = h;
-          sendable = far-sendable (said c) (asked k) a (w .broken .asks .formed) (w .broken .chosen) (w .broken .holds) t (w .filled) few-rows few-patterns few-literals steps room j (inside h) far;
-        })
-
-  draw-shown : {many n : ℕ} {steps′ : List (List ℕ)} {ends differences : List ℕ} → Drew (said c) (asked k) t steps many steps′ ends differences
-      → Shown steps (record { outcome = Breach n; places = a; steps = many; literals = length (asked k .literals); conclusions = endsWith ends differences }) steps′ (said c) (asked k)
-  draw-shown {many} {n} v =
-      rw (ap (λ (o : Out). o .next) (v .stands .written), ap (λ (o : Out). o .steps) (v .stands .written), v .stands .steps, v .stands .stated)
-      (drawn-shown (said c) (asked k) a (w .broken .asks .formed) (w .broken .chosen) (w .broken .holds) t (w .filled) few-rows few-patterns few-literals steps room
-      (v .small)
-      (Breach n))
-
-  pub draw-drawable : Drawable c k t steps
-  draw-drawable = record { places = a; tabled = w; room = room }
-
-  pub draw-done : {many : ℕ} {steps′ : List (List ℕ)} {ends differences : List ℕ} {d : Conclusions} (n : ℕ) → Drew (said c) (asked k) t steps many steps′ ends differences
-      → d ≡ endsWith ends differences
-      → Draws c k n a steps (record { outcome = Breach n; places = a; steps = many; literals = k .literals; conclusions = d }) steps′
-  draw-done {many} {steps′} n v e =
-      record {
-        outcome = refl;
-        places = refl;
-        shown =
-            subst₂ (λ (j : ℕ) (d : Conclusions). Shown steps (record { outcome = Breach n; places = a; steps = many; literals = j; conclusions = d }) steps′ (said c) (asked k))
-            (literals-long k)
-            (sym e)
-            (draw-shown v);
-      }
-
-module _ (c : ContextColumns) (k : ClauseColumns) (t : Table) (steps : List (List ℕ)) (w : Drawable c k t steps) where
-  pub drawable-fits : Fits c k t
-  drawable-fits = tabled-fits c k t (w .places) (w .tabled)
-
-  module _ (j : ℕ) {cells news ends differences : List ℕ} {next : ℕ} {steps′ : List (List ℕ)} (at : Turning c k t steps j cells (outOf news next steps′) ends differences) where
-    pub turning-sayable : j < k .literals → Sayable c k t j cells news next
-    turning-sayable = sayable c k (w .places) t (w .tabled) steps (w .room) j at
-
-    -- the run, and the new numbers, keep their lengths
-    pub turning-long : length steps′ ≡ length steps
-    turning-long = long c k (w .places) t (w .tabled) steps (w .room) j at
-
-    pub turning-numbers : length news ≡ numberRun
-    turning-numbers = numbers c k (w .places) t (w .tabled) steps (w .room) j at
-
-pub news-long : (news start : List ℕ) → start ≡ replicate numberRun 0 → length news ≡ numberRun → length news ≡ length start
-news-long news start e f = f ∙ sym (ap length e ∙ length-replicate {A = ℕ} numberRun 0)
-
-pub ends-made : (ends differences : List ℕ)
-    → _≡_ {A = Conclusions} (record { firsts = ends; differences = differences }) (endsWith ends differences)
-unfolding endsWith
-ends-made ends differences = refl
+  pub turning-column : {many from j : ℕ} {cells news firsts differences : List ℕ} {next : ℕ} {steps : List (List ℕ)}
+      → Turning keys ns apart literals n cells₀ table steps₀ many from j cells (outOf news next steps) firsts differences
+      → length cells ≡ length cells₀
+  turning-column at = column-long keys ns apart literals n cells₀ table steps₀ w at ∙ sym start-long
 
 pub ruleset mine = (
   needs,
-  turn-fits,
-  turn-inside,
-  turn-literals,
-  turn-place,
+  turn-entered,
+  turn-few,
+  turn-start,
   turn-sendable,
-  turn-turned,
+  turn-says,
+  turn-long,
+  turn-batched,
   turning-start,
+  turning-inside,
+  turning-place,
+  turning-sayable,
   turning-next,
   turning-done,
-  turning-shares,
-  turning-sayable,
   turning-long,
   turning-numbers,
-  news-long,
-  drawable-fits,
-  close-blank,
-  draw-drawable,
-  draw-done,
-  ends-made,
+  turning-column,
+  drawable-inside,
+  drawable-start,
+  drawable-few,
 )
+
+pub ruleset next = (ltb-true, turning-next)

@@ -19,27 +19,28 @@ use Rattle.meaning.specs.Replies.{breach, refused, refusal, replyOf, placesOf, 
 use Rattle.replies.specs.Told.{meant}
 use Rattle.replies.specs.declared.Refusal.{Refusal}
 use Rattle.search.specs.Finding.{foundBy}
-use Rattle.prepared.specs.Claims.{said, asked, Prepares}
-use Rattle.prepared.specs.declared.Answer.the-variants as A
-use Rattle.prepared.specs.declared.Prepared.{Prepared}
-use Rattle.prepared.proofs.Preparing.{Stands, ready-stands, ready-asks, refused-answers}
-use Rattle.finder.proofs.Ready.{ready-replies}
+use Rattle.ruling.specs.Claims.{contextIn, clauseIn, Rules}
+use Rattle.ruling.specs.declared.Answer.the-variants as A
+use Rattle.ruling.specs.declared.Ruled.{Ruled}
+use Rattle.ruling.proofs.Saying.{rows-inside, said-inside, patterns-inside, literals-inside}
+use Rattle.ruling.proofs.Ruling.{Stands, ready-stands, refused-answers}
+use Rattle.finder.proofs.Standing.{told-ready, ready-replies}
 use Rattle.grounds_steps.specs.Steps.{mostSteps}
 use Rattle.writer.specs.Claims.{refuses, lacks, replies, Shown, Leaves, Writes}
-use Rattle.writer.specs.Drawing.{bareWith, refusedWith, Seekable, LeavesFor, Sought}
+use Rattle.writer.specs.Seeking.{bareWith, refusedWith, LeavesFor, SeekableIn, SoughtIn}
 use Rattle.writer.specs.declared.Grounds.{Grounds}
 
 pub write-room : (steps : List (List ℕ)) (b : Bool) → b ≡ false → b ≡ ltb (length steps) mostSteps → mostSteps ≤ length steps
 write-room steps b h e = ltb-false (length steps) mostSteps (sym e ∙ h)
 
-module _ (text : List ℕ) (p : Prepared) (prepares : Prepares text p) (steps : List (List ℕ)) where
+module _ (text : List ℕ) (p : Ruled) (rules : Rules text p) (steps : List (List ℕ)) where
   pub write-refused : (x : Refusal) → p .answer ≡ A.Refused x → (y : Grounds) → y ≡ refusedWith x → Writes text steps y steps
   unfolding refusedWith bareWith placesOf
   write-refused x e y q =
       rw q
       record {
         reply = refused (meant x);
-        answers = refuses (meant x) (refused-answers text p prepares x e);
+        answers = refuses (meant x) (refused-answers text p rules x e);
         told = refl;
         places = refl;
         leaves = record { count = refl; literals = refl; conclusions = refl; words = refl };
@@ -47,13 +48,13 @@ module _ (text : List ℕ) (p : Prepared) (prepares : Prepares text p) (steps : 
 
   module _ (ready : p .answer ≡ A.Ready) where
     abbrev c : Context
-    c = said (p .context)
+    c = contextIn (p .told)
 
     abbrev k : Clause
-    k = asked (p .clause)
+    k = clauseIn (p .told)
 
-    stands : Stands text p
-    stands = ready-stands text p prepares ready
+    stands : Stands text (p .told)
+    stands = ready-stands text p rules ready
 
     pub write-cramped : (b : Bool) → b ≡ ltb (length steps) mostSteps → b ≡ true
         → (y : Grounds) → y ≡ refusedWith (record { number = 10; line = 0; offset = 0 }) → Writes text steps y steps
@@ -62,7 +63,7 @@ module _ (text : List ℕ) (p : Prepared) (prepares : Prepares text p) (steps : 
         rw q
         record {
           reply = refused (refusal 10 0);
-          answers = lacks (foundBy c (p .table) k) (ready-replies text p prepares ready) (ltb-true (length steps) mostSteps (sym e ∙ h));
+          answers = lacks (foundBy c (p .table) k) (ready-replies text p rules ready) (ltb-true (length steps) mostSteps (sym e ∙ h));
           told = refl;
           places = refl;
           leaves = record { count = refl; literals = refl; conclusions = refl; words = refl };
@@ -75,18 +76,25 @@ module _ (text : List ℕ) (p : Prepared) (prepares : Prepares text p) (steps : 
     judged-breach d l a u e (answers w h nothing q) = absurd (let z : _≡_ {A = ℕ} 0 1 = cc in omega arith)
 
     replied : (q : Found) → foundBy c (p .table) k ≡ q → Replies narrow text (replyOf q)
-    replied q e = subst (λ (q : Found). Replies narrow text (replyOf q)) e (ready-replies text p prepares ready)
+    replied q e = subst (λ (q : Found). Replies narrow text (replyOf q)) e (ready-replies text p rules ready)
 
     breach-said : (a : List ℕ) → foundBy c (p .table) k ≡ found a → Breach c (rangeOf c) k a
     breach-said a e =
         subst₂ (λ (d : Context) (l : Clause). Breach d (rangeOf d) l a) (sym (stands .context)) (sym (stands .clause))
         (judged-breach (stands .what .ledger .context) (stands .what .clause) a (breach a) refl (subst (λ (y : Reading). RepliesTo y (breach a)) (stands .whole) (replied (found a) e)))
 
-    pub write-seekable : Seekable (p .context) (p .table) (p .clause)
-    write-seekable = record { asks = ready-asks text p prepares ready; closed = prepares .closed; breach = breach-said }
+    pub write-seekable : SeekableIn (p .told .rows) (p .told .said) (p .told .patterns) (p .told .literals) (p .told .filled) (p .table)
+    write-seekable =
+        record {
+          rows-inside = rows-inside text (p .told) (rules .told);
+          said-inside = said-inside text (p .told) (rules .told);
+          patterns-inside = patterns-inside text (p .told) (rules .told);
+          literals-inside = literals-inside text (p .told) (rules .told);
+          seekable = record { ready = told-ready text p rules; breach = breach-said };
+        }
 
     pub write-sought : (b : Bool) → b ≡ ltb (length steps) mostSteps → b ≡ false → {y : Grounds} {steps′ : List (List ℕ)}
-        → Sought (p .context) (p .table) (p .clause) steps y steps′
+        → SoughtIn (p .told .rows) (p .told .said) (p .told .patterns) (p .told .literals) (p .told .filled) (p .table) steps y steps′
         → Writes text steps y steps′
     write-sought b e h {y} {steps′} w =
         record {

@@ -1,185 +1,147 @@
--- What the writer's inner functions ask and leave, for a breach at hand.
---     bareWith, refusedWith         the answer with nothing written
---     Broken                        well-formed columns, and an assignment that breaks the rule; places past the last variable are not read
---     Tabled                        and the table of all entries
---     Fits                          what the functions below ask of columns and table
---     sizeOf                        the number of entries
---     Apart                         the stated differences, as pairs of numbers
---     settledOf                     closed classes with their steps
---     saidFor, saidOf               what is said for a literal, and for one of the clause
---     turnOf, turnsOf               what is written for one literal, and for the first ones
---     Shares                        the closed classes and the number of their steps, at hand
---     Stands                        what is written so far, at hand
---     Sayable, Turned               what a literal's turn asks, and what it leaves
---     Drawable, Drew                what the turns of all literals ask, and what they leave
---     endsWith                      a conclusion for each literal
---     Draws                         the answer for a breach, and the run afterwards
---     outcomeBy                     what is told for the search's answer; for a failure refusal 0, which is no text's
---     Seekable, Sought              what the search asks, and the answer for what was found
+-- What the functions that draw a breach ask and leave.
+--     Broken                  runs that say a well-formed context and a well-formed rule, and an assignment that breaks it; places past the last variable are not read
+--     ownerBy, askedOf        whose steps a literal's own are; literal j by the numbers of its sides
+--     saidTo                  what is said for it from closed classes, behind so many shared steps of a column
+--     Stated                  pairs of numbers at the start of a run
+--     closedBy                classes closed by the stated equations
+--     Sayable                 what a literal's turn asks
+--     turnsTo                 what is written for the first literals
+--     Drawable, Drew          what the turns of all literals ask, and what they leave
+--     Entries, Closed         a breach with the keys and the numbers of all entries, and with closed classes
+--     groundsOf, Shows        the answer that they give; it shows the breach
 -- Assumes nothing.
-use mathlib.Core.Bool.{false}
+use mathlib.Core.Bool.{true, false}
 use mathlib.Core.List.{List}
 use mathlib.Core.Path.{_≡_}
 use Prim.Native.Nat.{ℕ, _+_, _≤_, _<_}
-use lib.ListN.{length, getD, replicate}
-use Rattle.meaning.specs.Context.{Row, Context, equations, differences}
-use Rattle.meaning.specs.Equality.{Promise}
-use Rattle.meaning.specs.Rules.{variables, rangeOf, Literal, Clause, AllHold, Breach, Found, found, nothing}
-use Rattle.meaning.specs.Replies.{replyOf, placesOf}
-use Rattle.meaning.specs.Grounds.{Each, instancesOf, literalAt}
-use Rattle.meaning.specs.Columns.{rowsFrom, statementsFrom}
+use lib.Dec.{eqb}
+use lib.ListN.{length, getD, set, take}
+use Rattle.meaning.specs.Context.{Context, equations, differences}
+use Rattle.meaning.specs.Rules.{variables, Clause, AllHold}
+use Rattle.meaning.specs.Formed.{Formed}
+use Rattle.meaning.specs.Values.{numberAt}
+use Rattle.meaning.specs.Grounds.{Each, instancesOf}
 use Rattle.meaning.specs.Checking.{entries, numbered}
-use Rattle.ledger.specs.declared.ContextColumns.{ContextColumns}
-use Rattle.ledger.specs.declared.ClauseColumns.{ClauseColumns}
-use Rattle.replies.specs.declared.Refusal.{Refusal}
-use Rattle.search.specs.Finding.{foundBy}
-use Rattle.search.specs.declared.Kind.{Kind}
-use Rattle.search.specs.declared.Kind.the-variants as S
-use Rattle.prepared.specs.Claims.{said, asked, Asks}
-use Rattle.replies.specs.Told.{toldBy, toldOf}
+use Rattle.runs.specs.Limits.{mostRows, mostStatements, mostPatterns, mostLiterals}
+use Rattle.runs.specs.Fit.{FitContext, FitClause}
+use Rattle.runs.specs.Runs.{rowCount, rowsOf, statementsOf, contextOf, signIn, leftIn, rightIn, literalCount, literalsOf, clauseOf}
 use Rattle.replies.specs.declared.Outcome.{Outcome}
-use Rattle.replies.specs.declared.Outcome.the-variants as O
-use Rattle.grounds_verdict.specs.declared.Conclusions.{Conclusions}
-use Rattle.numbering.specs.Keys.{Keyed}
-use Rattle.numbering.specs.Entries.{Filled}
-use Rattle.numbering.specs.Pairs.{pairsOf, Held}
-use Rattle.numbering.specs.declared.pairs.Pairs.{Pairs}
-use Rattle.numbering.specs.declared.table.Table.{Table}
-use Rattle.grounding.specs.Draft.{countIn}
-use Rattle.grounding.specs.Classes.{State}
-use Rattle.grounding.specs.Rounds.{started, stated, rounds}
-use Rattle.grounding.specs.Concluding.{Said, said as sayOf, resumed}
-use Rattle.grounds_batches.specs.Drawing.{Drawn, blankDrawn, drawOne, drawnTo}
-use Rattle.grounds_batches.specs.Sending.{Out, outOf, Small}
-use Rattle.grounds_words.specs.Emitting.{Sendable}
 use Rattle.grounds_steps.specs.Steps.{mostSteps}
-use Rattle.writer.specs.Claims.{noConclusions, Bare, Shown}
+use Rattle.grounds_numbers.specs.Limits.{mostNumbers}
+use Rattle.grounds_numbers.specs.Entries.{entriesOf, entryCount, Filled}
+use Rattle.grounds_numbers.specs.Pairs.{pairCount, pairsIn, pairsOf}
+use Rattle.grounds_verdict.specs.Claims.{Chosen}
+use Rattle.grounds_laws.specs.Classes.{State, stateOf}
+use Rattle.grounds_laws.specs.Rounds.{started, stated, blank}
+use Rattle.grounds_laws.specs.Concluding.{Said}
+use Rattle.grounds_classes.specs.Settling.{Entered, restedBy}
+use Rattle.grounds_conclusions.specs.Saying.{sayingBy}
+use Rattle.grounds_batches.specs.Sending.{Small}
+use Rattle.grounds_batches.specs.Drawing.{Drawn, blankDrawn, drawnTo}
+use Rattle.grounds_words.specs.Emitting.{Sendable}
+use Rattle.writer.specs.Claims.{Shown}
 use Rattle.writer.specs.declared.Grounds.{Grounds}
+use Rattle.writer.specs.declared.drawing.Asked.{Asked}
+use Rattle.writer.specs.declared.drawing.Support.{Support}
 
-unfoldable pub bareWith : Outcome → List ℕ → Grounds
-bareWith outcome places = record { outcome = outcome; places = places; steps = 0; literals = 0; conclusions = noConclusions }
+pub record Broken (rows said patterns literals places : List ℕ) : Type 0 where
+  pub context : FitContext mostRows mostStatements rows said
+  pub rule : FitClause patterns literals
+  pub chosen : Chosen rows patterns places
+  pub holds : AllHold (contextOf rows said) (instancesOf (contextOf rows said) (clauseOf patterns literals) places) (literalsOf literals)
 
-unfoldable pub refusedWith : Refusal → Grounds
-refusedWith x = bareWith (O.Refused x) (replicate 4 255)
+-- ---- one literal
 
--- ---- a breach at hand
+-- literal j, counted from 0
+unfoldable pub ownerBy : ℕ → ℕ → ℕ
+ownerBy kind j = elim (eqb kind 6) [ true ↦ 0 | false ↦ j + 1 ]
 
-pub record Broken (c : ContextColumns) (k : ClauseColumns) (places : List ℕ) : Type 0 where
-  pub asks : Asks c k
-  pub chosen : Each (variables (asked k .patterns)) (λ v. (v < length places) × (getD places v 0 < length (said c .rows)))
-  pub holds : AllHold (said c) (instancesOf (said c) (asked k) places) (asked k .literals)
+-- by the numbers of all entries, of which the first n are context rows
+unfoldable pub askedOf : List ℕ → List ℕ → ℕ → ℕ → Asked
+askedOf ns literals n j =
+    record {
+      kind = signIn literals j;
+      left = numberAt ns (n + leftIn literals j);
+      right = numberAt ns (n + rightIn literals j);
+      owner = ownerBy (signIn literals j) j;
+    }
 
-abbrev pub sizeOf : Context → Clause → ℕ
-sizeOf c k = length (c .rows) + length (k .patterns)
-
-pub record Tabled (c : ContextColumns) (k : ClauseColumns) (places : List ℕ) (t : Table) : Type 0 where
-  pub broken : Broken c k places
-  pub filled : Filled (entries (said c .rows) places (asked k .patterns)) t (sizeOf (said c) (asked k))
-
-pub record Fits (c : ContextColumns) (k : ClauseColumns) (t : Table) : Type 0 where
-  pub asks : Asks c k
-  pub keyed : Keyed (t .counts) (t .args) (c .rows + k .patterns)
-
--- the stated differences, as pairs of numbers
-pub record Apart (c : ContextColumns) (t : Table) (d : Pairs) : Type 0 where
-  pub held : Held (numbered (t .numbers) (pairsOf false (statementsFrom (c .kinds) (c .lefts) (c .rights) (c .statements)))) (d .lefts) (d .rights) (d .count)
-
--- ---- what is drawn of a table
-
-module _ (c : Context) (k : Clause) (t : Table) where
-  abbrev keys : List Row
-  keys = rowsFrom (t .symbols) (t .counts) (t .args) (sizeOf c k)
-
-  abbrev diffs : List (ℕ × ℕ)
-  diffs = numbered (t .numbers) (differences c)
-
-  unfoldable pub settledOf : State
-  settledOf = rounds (sizeOf c k) keys 8192 (stated (sizeOf c k) (numbered (t .numbers) (equations c)) (started (t .numbers) (sizeOf c k)))
-
-  -- in a column that begins with the shared steps
-  unfoldable pub saidFor : Literal → List ℕ → Said
-  saidFor l cells = sayOf (sizeOf c k) keys (t .numbers) (length (c .rows)) diffs l (resumed settledOf cells)
-
-  -- literal j, counted from 0
-  unfoldable pub saidOf : ℕ → List ℕ → Said
-  saidOf j cells = saidFor (literalAt (k .literals) j) cells
-
-  unfoldable pub turnOf : ℕ → Drawn → Drawn
-  turnOf = drawOne (sizeOf c k) keys (t .numbers) (length (c .rows)) diffs settledOf (k .literals)
-
-  -- the first j literals, in a run of words
-  unfoldable pub turnsOf : ℕ → List (List ℕ) → Drawn
-  turnsOf j steps =
-      drawnTo (sizeOf c k) keys (t .numbers) (length (c .rows)) diffs settledOf (k .literals) j
-      (blankDrawn (settledOf .cells) steps)
-
-  -- the closed classes, and how many steps they have
-  pub record Shares (classes : List ℕ) (from : ℕ) : Type 0 where
-    pub closed : classes ≡ settledOf .table
-    pub many : from ≡ countIn (settledOf .cells)
-
--- a column, new numbers, words and conclusions are those
-pub record Stands (cells : List ℕ) (out : Out) (ends differences : List ℕ) (d : Drawn) : Type 0 where
-  pub column : cells ≡ d .cells
-  pub written : out ≡ d .out
-  pub steps : ends ≡ d .ends
-  pub stated : differences ≡ d .differences
+-- by the keys of all entries and the stated differences
+unfoldable pub saidTo : List ℕ → List ℕ → Asked → List ℕ → ℕ → List ℕ → Said
+saidTo keys apart q table from cells = sayingBy keys apart (q .kind) (q .left) (q .right) (stateOf (set cells 0 from) table)
 
 -- the literal's steps fit their column, and there is a number for each step written after them
-pub record Sayable (c : ContextColumns) (k : ClauseColumns) (t : Table) (j : ℕ) (cells news : List ℕ) (next : ℕ) : Type 0 where
-  pub fits : Fits c k t
-  pub inside : j < k .literals
-  pub sendable : Sendable (saidOf (said c) (asked k) t j cells .cells) news next
+pub record Sayable (keys apart : List ℕ) (q : Asked) (table : List ℕ) (from : ℕ) (cells news : List ℕ) (next : ℕ) : Type 0 where
+  pub entered : Entered keys
+  pub few : pairCount apart + 1 < mostNumbers
+  pub start : 0 < length cells
+  pub sendable : Sendable (saidTo keys apart q table from cells .cells) news next
 
--- literal j, and the numbers of its column are of 16 bits
-pub record Turned (c : Context) (k : Clause) (t : Table) (j : ℕ) (d : Drawn) (cells : List ℕ) (out : Out) (ends differences : List ℕ) : Type 0 where
-  pub stands : Stands cells out ends differences (turnOf c k t j d)
-  pub small : Small (saidOf c k t j (d .cells) .cells)
+-- ---- all of them
 
--- a table of all entries for a breach, and room for the steps
-pub record Drawable (c : ContextColumns) (k : ClauseColumns) (t : Table) (steps : List (List ℕ)) : Type 0 where
-  pub places : List ℕ
-  pub tabled : Tabled c k places t
+-- the first m numbers of a run say some pairs
+pub record Stated (pairs : List (ℕ × ℕ)) (run : List ℕ) (m : ℕ) : Type 0 where
+  pub inside : m ≤ length run
+  pub few : pairCount (take m run) ≤ mostStatements
+  pub says : pairsIn (take m run) ≡ pairs
+
+-- by the keys and the numbers of all entries
+unfoldable pub closedBy : List ℕ → List ℕ → List ℕ → State
+closedBy keys ns said =
+    restedBy keys (stated (rowCount keys) (numbered ns (pairsOf true (statementsOf said))) (started ns (rowCount keys) blank))
+
+module _ (keys ns apart literals : List ℕ) (n : ℕ) (cells table : List ℕ) (steps : List (List ℕ)) where
+  -- the first j, in a run of words
+  unfoldable pub turnsTo : ℕ → Drawn
+  turnsTo j =
+      drawnTo (rowCount keys) (rowsOf keys) ns n (pairsIn apart) (stateOf cells table) (literalsOf literals) j
+      (blankDrawn cells steps)
+
+  -- the entries are those of an assignment that breaks a rule, the classes are closed, and there is room for the steps
+  pub record Drawable : Type 0 where
+    pub context : Context
+    pub rule : Clause
+    pub places : List ℕ
+    pub formed : Formed context rule
+    pub chosen : Each (variables (rule .patterns)) (λ v. (v < length places) × (getD places v 0 < length (context .rows)))
+    pub holds : AllHold context (instancesOf context rule places) (rule .literals)
+    pub filled : Filled (entries (context .rows) places (rule .patterns)) keys ns (length (context .rows) + length (rule .patterns))
+    pub rows-few : length (context .rows) ≤ mostRows
+    pub patterns-few : length (rule .patterns) ≤ mostPatterns
+    pub literals-few : literalCount literals ≤ mostLiterals
+    pub rows : n ≡ length (context .rows)
+    pub differences-said : pairsIn apart ≡ numbered ns (differences context)
+    pub literals-said : literalsOf literals ≡ rule .literals
+    pub pairs-few : pairCount apart ≤ mostStatements
+    pub entered : Entered keys
+    pub closed : stateOf cells table ≡ restedBy keys (stated (rowCount keys) (numbered ns (equations context)) (started ns (rowCount keys) blank))
+    pub room : mostSteps ≤ length steps
+
+  -- what is left, and the numbers of each one's column are of 16 bits
+  pub record Drew (r : Support) (steps′ : List (List ℕ)) : Type 0 where
+    pub many : r .steps ≡ turnsTo (literalCount literals) .out .next
+    pub words : steps′ ≡ turnsTo (literalCount literals) .out .steps
+    pub firsts : r .conclusions .firsts ≡ turnsTo (literalCount literals) .ends
+    pub differences : r .conclusions .differences ≡ turnsTo (literalCount literals) .differences
+    pub small : (j : ℕ) → j < literalCount literals
+        → Small (saidTo keys apart (askedOf ns literals n j) table (getD cells 0 0) (turnsTo j .cells) .cells)
+
+-- a breach at hand, with the keys and the numbers of all entries
+pub record Entries (rows said patterns literals a keys ns : List ℕ) : Type 0 where
+  pub broken : Broken rows said patterns literals a
+  pub filled : Filled (entriesOf rows a patterns) keys ns (entryCount rows patterns)
+
+-- with closed classes and room for the steps
+pub record Closed (rows said patterns literals a keys ns cells table : List ℕ) (steps : List (List ℕ)) : Type 0 where
+  pub entries : Entries rows said patterns literals a keys ns
+  pub closed : stateOf cells table ≡ closedBy keys ns said
   pub room : mostSteps ≤ length steps
 
--- all literals, in a run of words, and the numbers of each one's column are of 16 bits
-pub record Drew (c : Context) (k : Clause) (t : Table) (steps : List (List ℕ)) (next : ℕ) (steps′ : List (List ℕ)) (ends differences : List ℕ) : Type 0 where
-  pub cells : List ℕ
-  pub news : List ℕ
-  pub stands : Stands cells (outOf news next steps′) ends differences (turnsOf c k t (length (k .literals)) steps)
-  pub small : (j : ℕ) → j < length (k .literals) → Small (saidOf c k t j (turnsOf c k t j steps .cells) .cells)
+-- ---- the answer
 
--- a step and a stated difference in each place
-unfoldable pub endsWith : List ℕ → List ℕ → Conclusions
-endsWith ends differences = record { firsts = ends; differences = differences }
+abbrev pub groundsOf : Outcome → List ℕ → ℕ → Support → Grounds
+groundsOf outcome places literals s = record { outcome = outcome; places = places; steps = s .steps; literals = literals; conclusions = s .conclusions }
 
-pub record Draws (c : ContextColumns) (k : ClauseColumns) (n : ℕ) (a : List ℕ) (steps : List (List ℕ)) (r : Grounds) (steps′ : List (List ℕ)) : Type 0 where
-  pub outcome : r .outcome ≡ O.Breach n
-  pub places : r .places ≡ a
-  pub shown : Shown steps r steps′ (said c) (asked k)
-
--- ---- the search
-
-abbrev pub outcomeBy : Kind → Outcome
-outcomeBy (S.Breach n) = O.Breach n
-outcomeBy S.Clear = O.Clear
-outcomeBy S.Unfit = O.Refused (record { number = 0; line = 0; offset = 0 })
-
--- well-formed columns, and their closing, by which what is found is a breach
-pub record Seekable (c : ContextColumns) (table : List ℕ) (k : ClauseColumns) : Type 0 where
-  pub asks : Asks c k
-  pub closed : Promise (said c) 255 table
-  pub breach : (a : List ℕ) → foundBy (said c) table (asked k) ≡ found a → Breach (said c) (rangeOf (said c)) (asked k) a
-
--- the answer for what was found, and the run afterwards
-module _ (steps : List (List ℕ)) (r : Grounds) (steps′ : List (List ℕ)) where
-  abbrev pub LeavesFor : Context → Clause → Found → Type 0
-  LeavesFor c k (found a) = Shown steps r steps′ c k
-  LeavesFor c k nothing = Bare steps r steps′
-
-pub record Sought (c : ContextColumns) (table : List ℕ) (k : ClauseColumns) (steps : List (List ℕ)) (r : Grounds) (steps′ : List (List ℕ)) : Type 0 where
-  pub what : Found
-  pub finds : foundBy (said c) table (asked k) ≡ what
-  pub told : toldBy (r .outcome) ≡ toldOf (replyOf what)
-  pub places : r .places ≡ placesOf (replyOf what)
-  pub leaves : LeavesFor steps r steps′ (said c) (asked k) what
+-- whatever reply it goes with
+pub record Shows (rows said patterns literals a : List ℕ) (steps : List (List ℕ)) (s : Support) (steps′ : List (List ℕ)) : Type 0 where
+  pub shown : (o : Outcome) → Shown steps (groundsOf o a (literalCount literals) s) steps′ (contextOf rows said) (clauseOf patterns literals)

@@ -1,4 +1,4 @@
--- `writer::seek` meets its contract. What the search tells was found, and a breach stands in the places; well-formed columns are never unfit.
+-- `writer::seek` meets its contract. What the search tells was found, and a breach stands in the places; well-formed runs are never unfit.
 -- Assumes nothing.
 use Rattle.writer.proofs.Seeking.{mine}
 use Rattle.writer.proofs.seek.Statement.{statement}
@@ -13,8 +13,8 @@ outcome-of-requires c κs = search mine
 enum-known-kind : tie.Need-enum-known-kind
 enum-known-kind c = search mine
 
-draw-requires : tie.Need-draw-requires
-draw-requires c κs = (search mine, search mine)
+shown-requires : tie.Need-shown-requires
+shown-requires c κs = (search mine, search mine)
 
 enum-told : tie.Need-enum-told
 enum-told c = search mine
@@ -47,7 +47,7 @@ seek-spec =
     hunt-requires
     outcome-of-requires
     enum-known-kind
-    draw-requires
+    shown-requires
     enum-told
     bare-requires
     enum-told-2

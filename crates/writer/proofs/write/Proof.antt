@@ -4,8 +4,8 @@ use Rattle.writer.proofs.Writing.{mine}
 use Rattle.writer.proofs.write.Statement.{statement}
 use Rattle.writer.proofs.write.Tie as tie
 
-prepare-requires : tie.Need-prepare-requires
-prepare-requires c κs = search mine
+rule-requires : tie.Need-rule-requires
+rule-requires c κs = search mine
 
 enum-known-answer : tie.Need-enum-known-answer
 enum-known-answer c = search mine
@@ -31,8 +31,8 @@ same-length c = search mine
 returns-2 : tie.Need-returns-2
 returns-2 c = search mine
 
-seek-requires : tie.Need-seek-requires
-seek-requires c κs = (search mine, search mine)
+seek-in-requires : tie.Need-seek-in-requires
+seek-in-requires c κs = (search mine, search mine)
 
 same-length-2 : tie.Need-same-length-2
 same-length-2 c = search mine
@@ -44,7 +44,7 @@ pub write-spec : {M : Type 1} → statement M
 write-spec =
     tie.close
     (tie.spec
-    prepare-requires
+    rule-requires
     enum-known-answer
     refused-requires
     returns
@@ -53,6 +53,6 @@ write-spec =
     refused-requires-2
     same-length
     returns-2
-    seek-requires
+    seek-in-requires
     same-length-2
     returns-3)

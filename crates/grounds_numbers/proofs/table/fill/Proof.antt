@@ -12,14 +12,8 @@ Inv-loop rows patterns asg keys₀ numbers₀ n e₀ keys numbers e = Filling (e
 abbrev μ-loop : tie.MeasureT-loop
 μ-loop rows patterns asg keys₀ numbers₀ n e₀ keys numbers e = n - e
 
-row-count-requires : tie.Need-row-count-requires Inv-loop μ-loop
-row-count-requires c κs = search mine
-
-pattern-count-requires : tie.Need-pattern-count-requires Inv-loop μ-loop
-pattern-count-requires c κs = search mine
-
-add-n : tie.Need-add-n Inv-loop μ-loop
-add-n c = search mine
+entry-count-requires : tie.Need-entry-count-requires Inv-loop μ-loop
+entry-count-requires c κs = search mine
 
 loop-holds : tie.Need-loop-holds Inv-loop μ-loop
 loop-holds c = search mine
@@ -51,9 +45,7 @@ fill-spec =
     (tie.spec
     Inv-loop
     μ-loop
-    row-count-requires
-    pattern-count-requires
-    add-n
+    entry-count-requires
     loop-holds
     extend-requires
     add-e

@@ -1,2 +1,0 @@
--- The root of the definitions.
-pub mod Saying

@@ -1,3 +1,0 @@
--- The root of the definitions.
-pub mod Claims
-pub mod Ruling

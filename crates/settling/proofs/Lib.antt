@@ -1,5 +1,0 @@
--- The root of the laws.
-pub mod Drafting
-pub mod Classing
-pub mod Rounding
-pub mod Making
