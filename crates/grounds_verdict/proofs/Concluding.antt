@@ -20,11 +20,11 @@ use Rattle.runs.specs.Limits.{mostLiterals}
 use Rattle.runs.specs.Runs.{literalCount, signIn, leftIn, rightIn, literalIn}
 use Rattle.runs.proofs.Saying.{literals-at}
 use Rattle.grounds_steps.specs.Steps.{stepsOf}
+use Rattle.grounds_steps.proofs.Saying.{steps-length}
 use Rattle.grounds_numbers.specs.Pairs.{pairCount, firstIn, secondIn, pairsIn}
 use Rattle.grounds_numbers.proofs.Pairing.{pairs-length, pairs-at}
 use Rattle.grounds_verdict.specs.Tests.{instancesIn, citedAt, differsAt, concludedIn, concludedAt}
 use Rattle.grounds_verdict.specs.declared.Conclusions.{Conclusions}
-use Rattle.grounds_verdict.proofs.Numbers.{steps-length}
 use Rattle.grounds_verdict.proofs.Owning.{literal-equal, literal-unequal}
 
 -- ---- conclusions by their places

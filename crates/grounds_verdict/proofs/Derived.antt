@@ -18,10 +18,10 @@ use Rattle.meaning.specs.GroundColumns.{ownerOf, kindIn, leftRef, rightRef, ste
 use Rattle.runs.specs.Runs.{rowsOf, literalsOf}
 use Rattle.runs.proofs.Saying.{rows-at}
 use Rattle.grounds_steps.specs.Steps.{wordIn, stepsOf}
+use Rattle.grounds_steps.proofs.Saying.{step-at}
 use Rattle.grounds_numbers.specs.Keys.{Keyed}
 use Rattle.grounds_numbers.specs.Pairs.{pairsIn}
 use Rattle.grounds_verdict.specs.Tests.{instancesIn, kindAt, numbersAt, citedAt, metAt, congruentAt, addedAt, derivesAt, followsAt}
-use Rattle.grounds_verdict.proofs.Numbers.{step-at}
 use Rattle.grounds_verdict.proofs.Ways.{and-off}
 
 -- ---- the kinds

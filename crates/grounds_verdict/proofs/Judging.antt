@@ -22,6 +22,7 @@ use Rattle.runs.specs.Runs.{rowCount, rowsOf, saidCount, statementsOf, contextO
 use Rattle.runs.specs.Fit.{FitContext, FitClause}
 use Rattle.runs.proofs.Saying.{length-rows, length-patterns, length-literals}
 use Rattle.grounds_steps.specs.Steps.{stepsOf}
+use Rattle.grounds_steps.proofs.Saying.{steps-length}
 use Rattle.grounds_numbers.specs.Limits.{mostEntries, entryRun, pairSize, pairRun}
 use Rattle.grounds_numbers.specs.Keys.{Keyed}
 use Rattle.grounds_numbers.specs.Pairs.{pairsIn, pairsOf, Held}
@@ -30,7 +31,6 @@ use Rattle.grounds_numbers.proofs.Extending.{filled-keyed, filled-keys}
 use Rattle.grounds_verdict.specs.Tests.{instancesIn, concludedIn, followsAt, followsWith, concludedAt, concludedWith}
 use Rattle.grounds_verdict.specs.Claims.{WellFormed, Chosen}
 use Rattle.grounds_verdict.specs.declared.Conclusions.{Conclusions}
-use Rattle.grounds_verdict.proofs.Numbers.{steps-length}
 
 -- ---- stated pairs at the start of a run
 

@@ -1,9 +1,8 @@
 -- The numbers of references, and steps cited, by each way out of the code.
---     steps-length, step-at    there are as many steps as are lent, and each by its words
---     mine                     what the functions of `sides` leave to show
+--     mine    what the functions of `sides` leave to show
 -- Assumes nothing.
 use mathlib.Core.Bool.{Bool, true, false, not, _&&_, _||_}
-use mathlib.Core.List.{List, []}
+use mathlib.Core.List.{List}
 use mathlib.Core.Path.{_≡_, ap, sym, _∙_}
 use Prim.Native.Nat.{ℕ, _+_, _-_, _/_, _%_, _≤_, _<_}
 use native.Mathlib.Omega.{arith}
@@ -11,22 +10,13 @@ use lib.Dec.{eqb}
 use borrow.Author.Needs.{needs}
 use borrow.Author.Tests.{eq-eqb, ne-eqb, lt-ltb, le-ltb, le-leb, lt-leb, not-true, not-false}
 use lib.ListN.{length, getD, List·getD-eq-default}
-use Rattle.meaning.specs.Grounds.{step₀, stepAt}
 use Rattle.meaning.specs.Checking.{numberBelow, sideOf, counts, sidesBy, usedBy, citedBy}
 use Rattle.meaning.specs.GroundColumns.{ownerOf, leftRef, rightRef, stepFrom}
-use Rattle.meaning.proofs.Entries.{length-map, map-at}
-use Rattle.grounds_steps.specs.Steps.{wordIn, stepOf, stepsOf}
+use Rattle.grounds_steps.specs.Steps.{wordIn, stepsOf}
+use Rattle.grounds_steps.proofs.Saying.{step-at}
 use Rattle.grounds_verdict.specs.Tests.{instancesIn, numbersAt}
 
 -- ---- steps by their words
-
-pub steps-length : (steps : List (List ℕ)) → length (stepsOf steps) ≡ length steps
-unfolding stepsOf
-steps-length steps = length-map stepOf steps
-
-pub step-at : (steps : List (List ℕ)) (i : ℕ) → i < length steps → stepAt (stepsOf steps) i ≡ stepFrom (wordIn steps i 0) (wordIn steps i 1) (wordIn steps i 2)
-unfolding stepsOf
-step-at steps i h = map-at stepOf steps i [] step₀ h
 
 module _ (steps : List (List ℕ)) (i k y : ℕ) where
   pub number-first : k ≡ 0 → y ≡ wordIn steps i 1 → y / 4294967296 ≡ getD (numbersAt steps i) k 0

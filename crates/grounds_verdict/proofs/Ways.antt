@@ -18,11 +18,12 @@ use Rattle.runs.specs.Limits.{rowSize, argPlaces}
 use Rattle.runs.specs.Runs.{argsFrom, rowCount, symbolIn, countIn, argIn, argsIn}
 use Rattle.runs.proofs.Saying.{arg-at, args-length}
 use Rattle.grounds_steps.specs.Steps.{wordIn, stepsOf}
+use Rattle.grounds_steps.proofs.Saying.{step-at}
 use Rattle.grounds_numbers.specs.Keys.{Keyed}
 use Rattle.grounds_numbers.specs.Pairs.{pairCount, firstIn, secondIn, pairsIn}
 use Rattle.grounds_numbers.proofs.Pairing.{pairs-length, pairs-at}
 use Rattle.grounds_verdict.specs.Tests.{instancesIn, numbersAt, citedAt, eachAt, congruentAt}
-use Rattle.grounds_verdict.proofs.Numbers.{cited-zero, cited-late, step-at}
+use Rattle.grounds_verdict.proofs.Numbers.{cited-zero, cited-late}
 
 pub and-off : (a b : Bool) → b ≡ false → (a && b) ≡ false
 and-off true b e = e

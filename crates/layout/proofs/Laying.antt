@@ -9,7 +9,7 @@
 -- Assumes nothing.
 use mathlib.Core.List.{List, [], _∷_, _++_, append-assoc}
 use mathlib.Core.Path.{_≡_, refl, sym, ap, _∙_}
-use Prim.Native.Nat.{ℕ, zero, suc, _+_, _-_, _*_, _/_, _%_, _≤_, _<_}
+use Prim.Native.Nat.{ℕ, suc, _+_, _*_, _/_, _%_, _≤_, _<_}
 use native.Mathlib.Nat.{suc-mul, mul-le-mul-right}
 use native.Mathlib.Numerals.{add-one}
 use native.Mathlib.Omega.{arith}
@@ -21,6 +21,7 @@ use Rattle.meaning.specs.Columns.{pad}
 use Rattle.runs.specs.Limits.{mostRows, mostStatements, mostPatterns, mostLiterals, rowSize, saidSize, patternSize, literalSize, argPlaces}
 use Rattle.runs.specs.Runs.{each, rowCount, saidCount, patternCount, literalCount}
 use Rattle.runs.proofs.Saying.{each-length}
+use Rattle.runs.proofs.Zeros.{drop-zeros}
 use Rattle.layout.specs.Columns.{numberAt, inByte, byteAt, argAt, Reaches, rowPlaces, patternPlaces, contextLaid, ruleLaid}
 
 pub record Laid (g : ℕ → ℕ) (n : ℕ) (out₀ out : List ℕ) (i : ℕ) : Type 0 where
@@ -85,11 +86,6 @@ pub args-done : (run : List ℕ) (size from n m : ℕ) (out₀ out : List ℕ) (
 args-done run size from n m out₀ out x e l h = laid-done (argAt run size from) m out₀ out x l h ∙ rw e
 
 -- ---- a column that was all zeros
-
-drop-zeros : (n w : ℕ) → _≡_ {A = List ℕ} (drop n (replicate w 0)) (replicate (w - n) 0)
-drop-zeros zero w = let e : w - 0 ≡ w = omega arith in rw e
-drop-zeros (suc n) zero = let e : 0 - suc n ≡ 0 = omega arith in rw e
-drop-zeros (suc n) (suc w) = let e : suc w - suc n ≡ w - n = omega arith in rw e (drop-zeros n w)
 
 pub padded : (g : ℕ → ℕ) (n m w : ℕ) (out : List ℕ) → n ≡ m → out ≡ each g n ++ drop n (replicate w 0) → out ≡ pad w (each g m)
 unfolding pad

@@ -19,6 +19,7 @@ use lib.ListN.{length, getD, take, drop, replicate, length-append, length-replic
 use lib.Seq.{take-at, take-all, drop-append-add, drop-drop}
 use Rattle.runs.specs.Limits.{mostRows, mostStatements, mostPatterns, mostLiterals, rowSize, saidSize, patternSize, literalSize, argPlaces}
 use Rattle.runs.specs.Runs.{put}
+use Rattle.runs.proofs.Zeros.{drop-zeros}
 use Rattle.ledger.specs.declared.ClauseColumns.{ClauseColumns}
 use Rattle.classes.specs.Claims.{Closes}
 use Rattle.classes.specs.declared.Classes.{Classes}
@@ -53,11 +54,6 @@ pub record Laying (g : ℕ → List ℕ) (size most n : ℕ) (run : List ℕ) (i
   pub few : n ≤ most
   pub long : length run ≡ suc most * size
   pub so : run ≡ joined g i ++ drop (i * size) (replicate (suc most * size) 0)
-
-drop-zeros : (n w : ℕ) → _≡_ {A = List ℕ} (drop n (replicate w 0)) (replicate (w - n) 0)
-drop-zeros zero w = let e : w - 0 ≡ w = omega arith in rw e
-drop-zeros (suc n) zero = let e : 0 - suc n ≡ 0 = omega arith in rw e
-drop-zeros (suc n) (suc w) = let e : suc w - suc n ≡ w - n = omega arith in rw e (drop-zeros n w)
 
 module _ (g : ℕ → List ℕ) (size most n : ℕ) where
   start : (run : List ℕ) → run ≡ replicate (suc most * size) 0 → n ≤ most → Laying g size most n run 0

@@ -12,7 +12,7 @@ use Prim.Native.Nat.{ℕ, zero, suc, _+_, _-_, _*_, _/_, _≤_, _<_}
 use native.Mathlib.Nat.{suc-mul, zero-mul, zero-add}
 use native.Mathlib.Omega.{arith}
 use lib.ListN.{length, getD, take, replicate, length-append, length-replicate, length-take, List·getD-append}
-use lib.Seq.{take-at, getD-append-add}
+use lib.Seq.{getD-append-add}
 use Rattle.meaning.specs.Context.{Context, row₀, rowAt, Statement, same, differ, equationsOf, differencesOf}
 use Rattle.meaning.specs.Rules.{Pattern, variable, apply, Clause}
 use Rattle.meaning.specs.Formed.{Formed}
@@ -30,7 +30,7 @@ use Rattle.runs.proofs.Saying.{length-rows, length-statements, length-patterns,
 use Rattle.text_runs.specs.Numbers.{rowNumbers, patternNumbers, numbersOf}
 use Rattle.text_runs.specs.Reads.{readOf, Holds, Reads}
 use Rattle.text_runs.specs.declared.Told.{Told}
-use Rattle.text_runs.proofs.Saying.{told-kept, says-context, says-clause}
+use Rattle.text_runs.proofs.Saying.{filled-part, told-kept, says-context, says-clause}
 use Rattle.ruling.specs.Claims.{rowsIn, saidIn, patternsIn, literalsIn, contextIn, clauseIn}
 
 -- ---- a run of pieces
@@ -39,10 +39,6 @@ pub part-long : (n : ℕ) (l : List ℕ) → n ≤ length l → n ≡ length (ta
 part-long n l h = omega (arith, length-take n l)
 
 module _ {A : Type 0} {numbers : A → List ℕ} {places : ℕ} {l : List A} {run : List ℕ} {n : ℕ} (h : Holds numbers places l run n) where
-  filled-part : take n run ≡ numbersOf numbers l
-  unfolding pad
-  filled-part = rw (h .run-is) (take-at (numbersOf numbers l) (replicate (places - length (numbersOf numbers l)) 0) n (sym (h .filled-is)))
-
   filled-inside : n ≤ length run
   unfolding pad
   filled-inside = rw (h .run-is) (omega (arith, h .filled-is, length-append (numbersOf numbers l) (replicate (places - length (numbersOf numbers l)) 0)))

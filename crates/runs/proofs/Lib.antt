@@ -4,3 +4,4 @@ pub mod Formed
 pub mod Growing
 pub mod Ruled
 pub mod Saying
+pub mod Zeros

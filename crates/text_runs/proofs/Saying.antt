@@ -1,5 +1,6 @@
 -- The runs that are told say the context and the rule that were read.
 --     numbers-snoc                          the numbers of one piece more
+--     filled-part                           the filled part of a run is the numbers of what it holds
 --     told-kept                             what is told is within the limits
 --     says-context, says-clause             the filled parts of the runs say what was read
 -- Assumes nothing.
@@ -50,7 +51,7 @@ module _ {A : Type 0} (numbers : A → List ℕ) (size : ℕ) (say : List ℕ �
   says-all e l p = after [] l 0 (sym (zero-mul size)) e p
 
 -- what is filled of a run
-filled-part : {A : Type 0} {numbers : A → List ℕ} {places : ℕ} {l : List A} {run : List ℕ} {n : ℕ} → Holds numbers places l run n → take n run ≡ numbersOf numbers l
+pub filled-part : {A : Type 0} {numbers : A → List ℕ} {places : ℕ} {l : List A} {run : List ℕ} {n : ℕ} → Holds numbers places l run n → take n run ≡ numbersOf numbers l
 unfolding pad
 filled-part {A} {numbers} {places} {l} {run} {n} h =
     rw (h .run-is) (take-at (numbersOf numbers l) (replicate (places - length (numbersOf numbers l)) 0) n (sym (h .filled-is)))
