@@ -6,12 +6,11 @@ use mathlib.Core.Path.{_≡_, ap, _∙_}
 use Prim.Native.Nat.{ℕ, _≤_}
 use native.Mathlib.Omega.{arith}
 use borrow.Author.Needs.{needs}
-use Rattle.runs.specs.Runs.{rowCount, rowsOf}
+use Rattle.runs.specs.Runs.{rowCount}
 use Rattle.grounds_numbers.specs.Limits.{mostNumbers}
 use Rattle.grounds_numbers.specs.Pairs.{pairsIn}
-use Rattle.grounds_steps.specs.Steps.{mostEach}
 use Rattle.grounds_laws.specs.Classes.{State, stateOf}
-use Rattle.grounds_laws.specs.Rounds.{started, addedPair, pairJoined, stated, rounds}
+use Rattle.grounds_laws.specs.Rounds.{started, addedPair, pairJoined, stated}
 use Rattle.grounds_laws.specs.Concluding.{furthered}
 use Rattle.grounds_classes.specs.Settling.{Entered, restedBy, settledBy, furtheredBy}
 

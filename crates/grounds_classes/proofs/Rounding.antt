@@ -12,7 +12,7 @@ use lib.ListN.{length, getD, drop, drop-of-length-le, List·getD-eq-default}
 use lib.Seq.{drop-cons}
 use borrow.Author.Needs.{needs}
 use borrow.Author.Tests.{lt-ltb, le-ltb, eq-eqb, ne-eqb, eqb-true, eqb-false, not-true, not-false}
-use Rattle.meaning.specs.Context.{Row, rowAt, leftAt, rightAt}
+use Rattle.meaning.specs.Context.{Row, leftAt, rightAt}
 use Rattle.meaning.specs.Values.{numberAt}
 use Rattle.meaning.specs.ByTable.{sameList}
 use Rattle.meaning.proofs.Logic.{and-true-right}

@@ -26,7 +26,6 @@ use Rattle.grounds_numbers.specs.Limits.{mostNumbers}
 use Rattle.grounds_steps.specs.Steps.{mostEach}
 use Rattle.grounds_laws.specs.Limits.{draftSize, draftRun}
 use Rattle.grounds_laws.specs.Draft.{stepOf, countIn, ownerAt, stepIn, draftTo, draft, laid, Written, pushed, roomIn}
-use Rattle.grounds_laws.specs.Rounds.{alike}
 
 -- ---- a run of places
 

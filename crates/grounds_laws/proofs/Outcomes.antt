@@ -30,7 +30,7 @@ use Rattle.grounds_laws.specs.Draft.{countIn, Written, pushed}
 use Rattle.grounds_laws.specs.Classes.{labelIn, State, upto, joined}
 use Rattle.grounds_laws.specs.Rounds.{pairJoined, statedPair, addedPair, stateOne, stated}
 use Rattle.grounds_laws.proofs.Drafts.{Under, under-self, under-then, count-pushed}
-use Rattle.grounds_laws.proofs.Builds.{Run, shared-run, all, table, term, Made, grown-most, number-term, number-inside, ordered, stated-made, added-made}
+use Rattle.grounds_laws.proofs.Builds.{Run, shared-run, all, table, term, Made, grown-most, number-term, number-inside, stated-made, added-made}
 use Rattle.grounds_laws.proofs.Joins.{Sound, sound-grown, Joined, joined-sound, sound-owned}
 use Rattle.grounds_laws.proofs.Payments.{Paid, paid-most, paid-fewer, paid-join, size-in}
 

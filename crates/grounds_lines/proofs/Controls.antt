@@ -12,7 +12,7 @@ use lib.Dec.{ltb}
 use borrow.Author.Tests.{ltb-true, ltb-false}
 use lib.ListN.{length, length-append}
 use Rattle.meaning.specs.Writing.{frame, hex, digitOf}
-use Rattle.meaning.specs.Replies.{Reply, breach, codeOf, valuesOf, printed}
+use Rattle.meaning.specs.Replies.{Reply, codeOf, valuesOf, printed}
 use Rattle.meaning.specs.Sheet.{bytes}
 use Rattle.grounds_verdict.specs.declared.Conclusions.{Conclusions}
 use Rattle.reply_lines.specs.Pieces.{run}

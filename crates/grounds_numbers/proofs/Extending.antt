@@ -28,7 +28,7 @@ use Rattle.runs.specs.Limits.{mostVariables, rowSize, argPlaces}
 use Rattle.runs.specs.Runs.{put, rowCount, countIn, rowIn, rowsOf, patternCount, patternKindIn, headIn, patternCountIn, patternIn, patternsOf}
 use Rattle.runs.proofs.Saying.{length-rows, length-patterns, rows-at, patterns-at, pattern-variable, pattern-symbol}
 use Rattle.grounds_numbers.specs.Limits.{mostNumbers}
-use Rattle.grounds_numbers.specs.Keys.{after, Holds, placesIn, KeyAt, Copied, patternRow, Keyed, Like, like-found, like-none, Numbered}
+use Rattle.grounds_numbers.specs.Keys.{Holds, placesIn, KeyAt, Copied, patternRow, Keyed, Like, like-found, like-none, Numbered}
 use Rattle.grounds_numbers.specs.Entries.{entriesOf, Fillable, Room, Filled}
 use Rattle.grounds_numbers.proofs.Keying.{places-at, places-long}
 

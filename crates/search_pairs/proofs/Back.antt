@@ -3,9 +3,9 @@
 -- Assumes nothing.
 use mathlib.Core.Bool.{true, false}
 use mathlib.Core.List.{List}
-use mathlib.Core.Path.{_≡_, refl, ap, sym, _∙_}
-use mathlib.Core.Logic.{_⊎_, inl, inr, ⊎-elim}
-use Prim.Native.Nat.{ℕ, _+_, _-_, _*_, _≤_, _<_}
+use mathlib.Core.Path.{_≡_, refl, ap, _∙_}
+use mathlib.Core.Logic.{_⊎_, ⊎-elim}
+use Prim.Native.Nat.{ℕ, _+_, _-_, _≤_, _<_}
 use native.Mathlib.Omega.{arith}
 use native.Mathlib.Decide.{decLt, ℕ-discrete}
 use borrow.Author.Needs.{needs}
@@ -14,8 +14,8 @@ use lib.Seq.{getD-set-same, getD-set-other}
 use Rattle.meaning.specs.Equality.{repAt}
 use Rattle.meaning.proofs.Logic.{false-true}
 use Rattle.bits.specs.Sets.{has, Next, Emptied}
-use Rattle.search_pairs.specs.Ready.{wordsFor, mostWords}
-use Rattle.search_pairs.specs.Steps.{Space, Labelled, movedAt, Owned, Blank}
+use Rattle.search_pairs.specs.Ready.{wordsFor}
+use Rattle.search_pairs.specs.Steps.{Space, Labelled, Owned, Blank}
 
 pub record Restoring (n w : ℕ) (labels₀ labels work : List ℕ) (k : ℕ) : Type 0 where
   pub words : w ≡ wordsFor n

@@ -13,13 +13,12 @@ use native.Mathlib.Nat.{eq-or-lt-of-le, le-of-suc-le-suc}
 use native.Mathlib.Omega.{arith}
 use native.Mathlib.Decide.{decLt}
 use lib.ListN.{length, getD, length-map}
-use Rattle.meaning.specs.Context.{Row, Term, rowAt, termAt, Context, equationsOf, equations, differencesOf, differences, leftAt, rightAt}
-use Rattle.meaning.specs.Equality.{Equal, EqualIn, Clash, Stated, Consistent, Representatives, given, symmetric, transitive}
+use Rattle.meaning.specs.Context.{Term, rowAt, termAt, Context, equationsOf, equations, differencesOf, differences, leftAt, rightAt}
+use Rattle.meaning.specs.Equality.{Equal, Clash, Stated, Consistent, Representatives, given}
 use Rattle.meaning.specs.Formed.{Fit, Within}
 use Rattle.meaning.specs.Closing.{count}
 use Rattle.meaning.specs.Following.{withEquation, widerBy}
 use Rattle.meaning.proofs.Closes.{length-count, repAt-count}
-use Rattle.meaning.proofs.Lists.{below-at}
 use Rattle.meaning.proofs.Logic.{false-true}
 use Rattle.meaning.proofs.Meaning.{meaning-rows}
 use Rattle.meaning.proofs.Model.{Closed}
@@ -27,7 +26,7 @@ use Rattle.meaning.proofs.Pairs.{same-mono}
 use Rattle.meaning.proofs.Promised.{representatives-closed, model-rows}
 use Rattle.meaning.proofs.Following.{wider-rows}
 use Rattle.meaning.proofs.FollowingNumbers.{widerBy-rows}
-use Rattle.search_pairs.specs.Ready.{argOf, argCount, Live}
+use Rattle.search_pairs.specs.Ready.{Live}
 
 abbrev Least : (ℕ → Bool) → ℕ → ℕ → Type 0
 Least test n m = (m ≤ n) × (test m ≡ true) × ((k : ℕ) → k < m → test k ≡ false)

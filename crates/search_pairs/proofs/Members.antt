@@ -2,20 +2,19 @@
 --     Walk                              the members before a place have been seen
 --     walk-start, walk-step, walk-done  from the label on, one member more, and all
 -- Assumes nothing.
-use mathlib.Core.Bool.{Bool, true, false}
+use mathlib.Core.Bool.{true, false}
 use mathlib.Core.List.{List}
-use mathlib.Core.Path.{_≡_, refl, ap, sym, _∙_}
-use mathlib.Core.Logic.{_⊎_, inl, inr, ⊎-elim}
-use Prim.Native.Nat.{ℕ, _+_, _-_, _*_, _≤_, _<_}
+use mathlib.Core.Path.{_≡_, ap, sym, _∙_}
+use mathlib.Core.Logic.{_⊎_, ⊎-elim}
+use Prim.Native.Nat.{ℕ, _+_, _-_, _≤_, _<_}
 use native.Mathlib.Omega.{arith}
 use native.Mathlib.Decide.{decLt, ℕ-discrete}
 use borrow.Author.Needs.{needs}
-use lib.ListN.{length}
 use Rattle.meaning.specs.Equality.{repAt}
 use Rattle.meaning.proofs.Logic.{false-true}
 use Rattle.bits.specs.Sets.{has, Next}
-use Rattle.search_pairs.specs.Ready.{wordsFor, mostWords, overAt, apartAt}
-use Rattle.search_pairs.specs.Steps.{Space, Labelled, setsSize, movedAt, Member, ApartFrom, Clashing}
+use Rattle.search_pairs.specs.Ready.{wordsFor}
+use Rattle.search_pairs.specs.Steps.{Space, Labelled, movedAt, Member}
 
 -- ---- the next member
 

@@ -5,23 +5,21 @@
 use mathlib.Core.Bool.{Bool, true, false}
 use mathlib.Core.List.{List, [], _∷_, map}
 use mathlib.Core.Path.{_≡_, refl, ap, sym, _∙_, subst}
-use mathlib.Core.Logic.{_⊎_, inl, inr, ⊎-elim}
-use Prim.Native.Nat.{ℕ, _+_, _-_, _*_, _/_, _≤_, _<_}
+use Prim.Native.Nat.{ℕ, _+_, _-_, _*_, _≤_, _<_}
 use native.Mathlib.Omega.{arith}
 use native.Mathlib.Decide.{decLt, ℕ-discrete}
 use borrow.Author.Needs.{needs}
-use lib.ListN.{length, getD, length-map}
+use lib.ListN.{length, getD}
 use Rattle.meaning.specs.Context.{Row, rowAt}
 use Rattle.meaning.specs.Equality.{repAt}
-use Rattle.meaning.proofs.Closes.{repAt-map}
 use Rattle.meaning.proofs.Lists.{below-at}
 use Rattle.meaning.proofs.Logic.{false-true}
 use Rattle.meaning.proofs.Promised.{representatives-closed}
 use Rattle.bits.specs.Sets.{has, Next}
 use Rattle.runs.specs.Limits.{rowSize}
-use Rattle.runs.specs.Runs.{rowCount, countIn, argIn, argsIn, rowsOf, contextOf}
+use Rattle.runs.specs.Runs.{rowCount, countIn, argIn, rowsOf, contextOf}
 use Rattle.runs.proofs.Saying.{length-rows, rows-at, arg-at, row-length}
-use Rattle.search_pairs.specs.Ready.{argOf, argCount, wordsFor, mostWords, overAt, Ready}
+use Rattle.search_pairs.specs.Ready.{argOf, argCount, wordsFor, overAt, Ready}
 use Rattle.search_pairs.specs.Steps.{Laid, Space, Labelled, setsSize, Member, Inside, labelBy, agreeBy, Differs, OverClass, OverLabel, Mate}
 use Rattle.search_pairs.proofs.Rows.{agreeBy-true}
 use Rattle.search_pairs.proofs.Members.{Walk, walk-start, walk-step, walk-less, walk-done}

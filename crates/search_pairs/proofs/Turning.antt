@@ -5,16 +5,15 @@
 -- Assumes nothing.
 use mathlib.Core.Bool.{Bool, true, false, not, _&&_}
 use mathlib.Core.List.{List, _∷_}
-use mathlib.Core.Path.{_≡_, refl, ap, ap₂, sym, _∙_, subst}
+use mathlib.Core.Path.{_≡_, refl, ap, sym, _∙_, subst}
 use mathlib.Core.Logic.{_⊎_, inl, inr, ⊎-elim}
 use Prim.Native.Nat.{ℕ, suc, _+_, _*_, _≤_, _<_}
 use native.Mathlib.Nat.{mul-le-mul-right, suc-mul}
 use native.Mathlib.Omega.{arith}
-use native.Mathlib.Decide.{ℕ-discrete}
 use borrow.Author.Needs.{needs}
 use borrow.Author.Tests.{ne-eqb, eq-eqb}
 use lib.Dec.{eqb}
-use lib.ListN.{length, getD}
+use lib.ListN.{length}
 use Rattle.meaning.specs.Context.{rowAt, termAt, equations, differences}
 use Rattle.meaning.specs.Equality.{Equal, repAt}
 use Rattle.meaning.specs.ByTable.{apartBy}
@@ -30,7 +29,7 @@ use Rattle.bits.proofs.Words.{has-on}
 use Rattle.bits.proofs.Members.{size-most, size-less}
 use Rattle.runs.specs.Runs.{rowCount, rowsOf, contextOf}
 use Rattle.runs.proofs.Saying.{length-rows}
-use Rattle.search_pairs.specs.Ready.{argOf, argCount, wordsFor, mostWords, overAt, apartAt, Ready}
+use Rattle.search_pairs.specs.Ready.{argOf, argCount, wordsFor, apartAt, Ready}
 use Rattle.search_pairs.specs.Steps.{Two, Way, Space, Labelled, setsSize, Inside, Labels, labelBy, agreeBy, markedAt, movedAt, Clashing, Joined, Meeting, Mate, remaining, Turned, SameSymbol, SameArgs, Blank, Ends, Followed}
 use Rattle.search_pairs.proofs.Rows.{agreeBy-true, agreeBy-so}
 use Rattle.search_pairs.proofs.Ways.{way-start, way-join, way-clash, way-equal, way-unmark, way-done}

@@ -7,12 +7,12 @@
 use mathlib.Core.Bool.{Bool, true, false}
 use mathlib.Core.List.{List, [], _∷_, map}
 use mathlib.Core.Path.{_≡_, refl, ap, ap₂, sym, _∙_, subst}
-use mathlib.Core.Logic.{_⊎_, inl, inr, ⊎-elim, _↔_}
-use Prim.Native.Nat.{ℕ, zero, suc, _≤_, _<_}
+use mathlib.Core.Logic.{_⊎_, inl, inr, ⊎-elim}
+use Prim.Native.Nat.{ℕ, suc, _<_}
 use native.Mathlib.Omega.{arith}
 use native.Mathlib.Decide.{ℕ-discrete}
 use lib.ListN.{length, getD, length-map}
-use Rattle.meaning.specs.Context.{Row, rowAt, termAt, Context, equationsOf, equations, differencesOf, differences, leftAt, rightAt}
+use Rattle.meaning.specs.Context.{rowAt, termAt, Context, equationsOf, equations, differencesOf, differences, leftAt, rightAt}
 use Rattle.meaning.specs.Equality.{Equal, Consistent, Representatives, symmetric, transitive}
 use Rattle.meaning.specs.Formed.{Fit}
 use Rattle.meaning.specs.ByTable.{apartBy}
@@ -26,7 +26,7 @@ use Rattle.meaning.proofs.Closes.{agree-equal}
 use Rattle.meaning.proofs.Promised.{representatives-closed, closed-representatives, model-rows}
 use Rattle.meaning.proofs.Apartness.{Hits, Meets, apartBy-true, apartBy-symmetric}
 use Rattle.meaning.proofs.Following.{with-fit, wider-rows}
-use Rattle.meaning.proofs.FollowingClosing.{closed-sofar, with-given, further-closed}
+use Rattle.meaning.proofs.FollowingClosing.{closed-sofar, further-closed}
 use Rattle.meaning.proofs.FollowingTable.{followsBy-true}
 use Rattle.meaning.proofs.FollowingNumbers.{widerBy-rows, widerBy-table}
 use Rattle.search_pairs.specs.Ready.{argOf, argCount}

@@ -5,12 +5,12 @@
 --     overAt .. liveAt       the sets, one behind the other in a run
 --     Ready                  a table that is closed for a consistent context, with its sets
 -- Assumes nothing.
-use mathlib.Core.Bool.{Bool, true, false}
+use mathlib.Core.Bool.{Bool, true}
 use mathlib.Core.List.{List}
 use mathlib.Core.Path.{_≡_}
-use Prim.Native.Nat.{ℕ, _+_, _*_, _/_, _<_, _≤_}
+use Prim.Native.Nat.{ℕ, _+_, _*_, _/_, _<_}
 use lib.ListN.{length, getD}
-use Rattle.meaning.specs.Context.{Row, rowAt, Context, differences, leftAt, rightAt}
+use Rattle.meaning.specs.Context.{Row, rowAt, differences, leftAt, rightAt}
 use Rattle.meaning.specs.Equality.{Consistent, Representatives, repAt}
 use Rattle.meaning.specs.Formed.{Fit}
 use Rattle.meaning.specs.ByTable.{apartBy}

@@ -1,5 +1,4 @@
 // The level of each pattern row, and the number of variables.
-use casts::usize_of_u16;
 use runs::head_in;
 use runs::pattern_arg_in;
 use runs::pattern_count;

@@ -5,7 +5,6 @@ use runs::pattern_count_in;
 use runs::pattern_kind_in;
 ghost use mathlib.Core.Path.{_≡_};
 ghost use Prim.Native.Nat.{_^_, _<_};
-ghost use lib.Bits.{bitOr};
 ghost use lib.ListN.{length};
 ghost use Rattle.runs.specs.Limits.{mostVariables};
 ghost use Rattle.runs.specs.Runs.{patternCount, patternArgsIn, patternIn, patternsOf};

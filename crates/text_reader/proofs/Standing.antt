@@ -18,8 +18,8 @@ use lib.Dec.{ltb, leb}
 use lib.ListN.{length, set, drop, length-append, length-set, drop-of-length-le}
 use borrow.Author.Needs.{needs}
 use borrow.Author.Tests.{ltb-true}
-use Rattle.meaning.specs.Context.{Row, Statement, same, differ}
-use Rattle.meaning.specs.Rules.{Pattern, variable, apply, Literal}
+use Rattle.meaning.specs.Context.{Statement, same, differ}
+use Rattle.meaning.specs.Rules.{Pattern, variable, apply}
 use Rattle.meaning.specs.Columns.{kindOf, patternKind, headOf, argsIn}
 use Rattle.meaning.specs.Text as M
 use Rattle.meaning.specs.Text.{Read, nothingRead, read, readLines, linesOf, linesFrom, narrow, row, statement, pattern, literal, put, putContext, putClause, rankOf, rowsOf, patternsOf, ledgerOf}

@@ -5,9 +5,6 @@ use borrow.Author.Needs.{needs}
 use Rattle.bits.proofs.Loops.{next-here, next-after, mine}
 use Rattle.bits.proofs.next.Statement.{statement}
 use Rattle.bits.proofs.next.Tie as tie
-use Rattle.bits.proofs.above.Reads as above-reads
-use Rattle.bits.proofs.low.Reads as low-reads
-use Rattle.bits.proofs.lowest.Reads as lowest-reads
 
 -- src/lib.rt:117:16
 mul-result : tie.Need-mul-result

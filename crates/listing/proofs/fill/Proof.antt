@@ -2,7 +2,6 @@
 -- room left.
 -- Assumes nothing.
 use Prim.Native.Nat.{_-_}
-use native.Mathlib.Omega.{arith}
 use lib.ListN.{length}
 use Rattle.hunting.specs.Laid.{contextIn, ruleIn}
 use Rattle.listing.specs.Filling.{Lent}

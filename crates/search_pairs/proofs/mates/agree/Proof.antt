@@ -3,9 +3,6 @@
 use Rattle.search_pairs.proofs.Rows.{seated-other, mine}
 use Rattle.search_pairs.proofs.mates.agree.Statement.{statement}
 use Rattle.search_pairs.proofs.mates.agree.Tie as tie
-use Rattle.runs.proofs.count_in.Reads as count-in-reads
-use Rattle.runs.proofs.symbol_in.Reads as symbol-in-reads
-use Rattle.search_pairs.proofs.mates.same_args.Reads as same-args-reads
 
 symbol-in-requires : tie.Need-symbol-in-requires
 symbol-in-requires c κs = search mine

@@ -3,8 +3,6 @@
 use Rattle.search_pairs.proofs.Rows.{mine}
 use Rattle.search_pairs.proofs.mates.arg_label.Statement.{statement}
 use Rattle.search_pairs.proofs.mates.arg_label.Tie as tie
-use Rattle.runs.proofs.arg_in.Reads as arg-in-reads
-use Rattle.search_pairs.proofs.mates.label.Reads as label-reads
 
 arg-in-requires : tie.Need-arg-in-requires
 arg-in-requires c κs = search mine

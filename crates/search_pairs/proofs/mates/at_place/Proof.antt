@@ -3,7 +3,6 @@
 use Rattle.search_pairs.proofs.Rows.{mine}
 use Rattle.search_pairs.proofs.mates.at_place.Statement.{statement}
 use Rattle.search_pairs.proofs.mates.at_place.Tie as tie
-use Rattle.casts.proofs.usize_of_u16.Reads as usize-of-u16-reads
 
 mul-usize-of-u16 : tie.Need-mul-usize-of-u16
 mul-usize-of-u16 c = search mine

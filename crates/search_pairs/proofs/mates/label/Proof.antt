@@ -3,7 +3,6 @@
 use Rattle.search_pairs.proofs.Rows.{mine}
 use Rattle.search_pairs.proofs.mates.label.Statement.{statement}
 use Rattle.search_pairs.proofs.mates.label.Tie as tie
-use Rattle.search_pairs.proofs.mates.at_place.Reads as at-place-reads
 
 at-place-requires : tie.Need-at-place-requires
 at-place-requires c κs = search mine

@@ -4,7 +4,6 @@ use Prim.Native.Nat.{_-_}
 use Rattle.search_pairs.proofs.Rows.{Agreeing, agreeing-next, mine}
 use Rattle.search_pairs.proofs.mates.same_args.Statement.{statement}
 use Rattle.search_pairs.proofs.mates.same_args.Tie as tie
-use Rattle.search_pairs.proofs.mates.arg_label.Reads as arg-label-reads
 
 abbrev Inv-loop : tie.InvT-loop
 Inv-loop rows table labels i j count k₀ k = Agreeing rows table labels i j count k
