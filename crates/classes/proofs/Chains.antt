@@ -27,7 +27,7 @@ use Rattle.meaning.proofs.Lists.{sameList-true, sameList-self}
 use Rattle.meaning.proofs.Closes.{agree-equal}
 use Rattle.runs.specs.Runs.{rowCount, rowsOf}
 use Rattle.runs.proofs.Saying.{length-rows}
-use Rattle.classes.specs.Steps.{chains, Laid, merge, keyOf, Last, Nexts, Mate, mergeAt, Joined, Kept, Outcome, Alike, Passed}
+use Rattle.classes.specs.Steps.{chains, Laid, merge, keyOf, Last, Nexts, Mate, mergeAt, Joined, Bounded, Visited, Kept, Outcome, Alike, Passed}
 use Rattle.classes.proofs.Rows.{mix-below}
 use Rattle.classes.proofs.Merges.{outcome-none, outcome-then, merge-outcome}
 
@@ -124,19 +124,30 @@ joined-mate rows next i head at l n m h e =
     let q : at ≡ suc (at - 1) = omega arith in
     record { at = at; mate = m; so = e ∙ sym (ap (λ (x : ℕ). mergeAt i x l) q) }
 
+-- ---- one row of the pass
+
+module _ {heads next : List ℕ} {i : ℕ} (bounded : Bounded heads next i) where
+  pub bounded-links : (j : ℕ) → j < i → getD next j 0 ≤ j
+  bounded-links = bounded .nexts-low
+
+  pub bounded-head : (b x h : ℕ) → b < chains → x ≡ getD heads b 0 → h ≡ x → h ≤ i
+  bounded-head b x h small ex eh = omega (arith, bounded .heads-low b small)
+
+pub visited-now : (rows : List Row) (l m heads next : List ℕ) (i b h : ℕ) → b ≡ keyOf rows l i → h ≡ getD heads b 0 → Joined rows next i h l m
+    → Visited rows i l m heads (set heads b (i + 1)) next (set next i (getD heads b 0))
+visited-now rows l m heads next i b h e eh joined =
+    record {
+      joined = subst (λ (x : ℕ). Joined rows next i x l m) (eh ∙ ap (λ (x : ℕ). getD heads x 0) e) joined;
+      head = ap (λ (x : ℕ). set heads x (i + 1)) e;
+      link = ap (λ (x : ℕ). set next i (getD heads x 0)) e;
+    }
+
 -- ---- the pass over the rows
 
 -- the chains of the first n rows
 pub record Linked (key : ℕ → ℕ) (heads next : List ℕ) (n : ℕ) : Type 0 where
   pub nexts : Nexts key next n
   pub lasts : (b : ℕ) → b < chains → Last key n b (getD heads b 0)
-
--- what keeps the search inside the table, whatever the keys were
-pub record Bounded (heads next : List ℕ) (n : ℕ) : Type 0 where
-  pub long-heads : length heads ≡ chains
-  pub long-next : length next ≡ mostRows
-  pub heads-low : (b : ℕ) → b < chains → getD heads b 0 ≤ n
-  pub nexts-low : (j : ℕ) → j < n → getD next j 0 ≤ j
 
 linked-start : (key : ℕ → ℕ) → Linked key (replicate chains 0) (replicate mostRows 0) 0
 linked-start key =
@@ -265,27 +276,21 @@ passing-start run n l heads next e laid eh en =
     })
 
 module _ {run : List ℕ} {n : ℕ} {l t heads next : List ℕ} {i : ℕ} (s : Passing run n l t heads next i) where
-  pub passing-links : (j : ℕ) → j < i → getD next j 0 ≤ j
-  passing-links = s .bounded .nexts-low
-
-  pub passing-key : (b : ℕ) → b ≡ keyOf (rowsOf run) t i → b < chains
-  passing-key b e = omega (arith, key-below (rowsOf run) t i)
-
-  pub passing-head : (b x h : ℕ) → b ≡ keyOf (rowsOf run) t i → x ≡ getD heads b 0 → h ≡ x → h ≤ i
-  passing-head b x h e ex eh = omega (arith, s .bounded .heads-low b (passing-key b e))
-
-  pub passing-next : (b h : ℕ) (u : List ℕ) → i < n → length u ≡ length t → b ≡ keyOf (rowsOf run) t i → h ≡ getD heads b 0
+  passing-joined : (b h : ℕ) (u : List ℕ) → i < n → length u ≡ length t → b ≡ keyOf (rowsOf run) t i → h ≡ getD heads b 0
       → Joined (rowsOf run) next i h t u → Passing run n l u (set heads b (i + 1)) (set next i (getD heads b 0)) (i + 1)
-  passing-next b h u more z e eh joined =
+  passing-joined b h u more z e eh joined =
       record {
         count = s .count;
         room = s .room;
         reach = omega arith;
         stays = z ∙ s .stays;
-        bounded = bounded-next (s .bounded) (omega (arith, s .room)) b (passing-key b e);
+        bounded = bounded-next (s .bounded) (omega (arith, s .room)) b small;
         far = λ eqs ordered kept. after eqs ordered (s .far eqs ordered kept);
       }
     where
+      small : b < chains
+      small = omega (arith, key-below (rowsOf run) t i)
+
       R : List Row
       R = rowsOf run
 
@@ -314,11 +319,16 @@ module _ {run : List ℕ} {n : ℕ} {l t heads next : List ℕ} {i : ℕ} (s : P
               → Alike R (i + 1) l × Linked (keyOf R l) (set heads b (i + 1)) (set next i (getD heads b 0)) (i + 1)
           close same old one =
               let k : b ≡ keyOf R l i = e ∙ ap (λ (x : List ℕ). keyOf R x i) same in
-              let last : Last (keyOf R l) i (keyOf R l i) h = rw (eh, ← k) (old .1 .lasts b (passing-key b e)) in (
+              let last : Last (keyOf R l) i (keyOf R l i) h = rw (eh, ← k) (old .1 .lasts b small) in (
                 alike-next R l next i h (joined .at) (subst (λ (x : List ℕ). Mate R x next i h (joined .at)) same (joined .mate)) last (old .1 .nexts) (old .0)
                     (subst (λ (x : List ℕ). (p : ℕ) → joined .at ≡ suc p → repAt x i ≡ repAt x p) same one),
-                linked-next (s .bounded) (omega (arith, s .room)) b (passing-key b e) (keyOf R l) k (old .1),
+                linked-next (s .bounded) (omega (arith, s .room)) b small (keyOf R l) k (old .1),
               )
+
+  pub passing-next : (u heads′ next′ : List ℕ) → i < n → length u ≡ length t → Visited (rowsOf run) i t u heads heads′ next next′
+      → Passing run n l u heads′ next′ (i + 1)
+  passing-next u heads′ next′ more z v =
+      rw (v .head, v .link) (passing-joined (keyOf (rowsOf run) t i) (getD heads (keyOf (rowsOf run) t i) 0) u more z refl refl (v .joined))
 
   pub passing-done : n ≤ i → Passed (rowsOf run) l t
   passing-done h = record { outcome = λ eqs ordered kept. last eqs (s .far eqs ordered kept) }
@@ -340,10 +350,10 @@ pub ruleset mine = (
   seeking-done,
   joined-none,
   joined-mate,
+  bounded-links,
+  bounded-head,
+  visited-now,
   passing-start,
-  passing-links,
-  passing-key,
-  passing-head,
   passing-next,
   passing-done,
 )

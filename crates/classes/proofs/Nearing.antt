@@ -35,9 +35,9 @@ nearer-then {rows} {l} {m} {o} a b =
 pub found-none : (rows : List Row) (l : List ℕ) (n i : ℕ) → Found rows l n i 0
 found-none rows l n i = record { bound = omega arith; agrees = λ p e. absurd (omega arith) }
 
-pub found-one : (rows : List Row) (l : List ℕ) (n i at : ℕ) (r : Bool) → at ≤ n → (at ≡ 0 → ⊥) → r ≡ agree rows l i (at - 1) → r ≡ true → Found rows l n i at
-found-one rows l n i at r h z e t =
-    record { bound = h; agrees = λ p q. subst (λ (x : ℕ). agree rows l i x ≡ true) (omega arith) (sym e ∙ t) }
+pub found-one : (rows : List Row) (l : List ℕ) (n i at m : ℕ) (r : Bool) → (at ≡ 0 → ⊥) → m ≡ n → at ≤ m → r ≡ agree rows l i (at - 1) → r ≡ true → Found rows l n i at
+found-one rows l n i at m r z em h e t =
+    record { bound = omega arith; agrees = λ p q. subst (λ (x : ℕ). agree rows l i x ≡ true) (omega arith) (sym e ∙ t) }
 
 module _ (run : List ℕ) (i at : ℕ) (l m : List ℕ) (hi : i < rowCount run) (found : Found (rowsOf run) l (rowCount run) i at) where
   pub nearer-merge : (at ≡ 0 → ⊥) → m ≡ merge i (at - 1) l → Nearer (rowsOf run) l m

@@ -1,6 +1,5 @@
--- The stated equations joined, and passes over the rows till nothing changes: what holds at the head of the loop, what a pass does there, and
--- what is promised at its end.
---     mine     what `settle` leaves to show
+-- The stated equations joined, and rounds over the rows till nothing changes: what a round does, and what is promised at their end.
+--     mine     what `begin`, `round` and `settle` leave to show
 -- Assumes nothing.
 use mathlib.Core.Bool.{Bool, true, false}
 use mathlib.Core.List.{List}
@@ -14,20 +13,16 @@ use borrow.Author.Needs.{needs}
 use borrow.Author.Tests.{eqb-true, eqb-false}
 use Rattle.meaning.specs.Context.{Row, termAt, Context, equations, equationsOf, leftAt, rightAt}
 use Rattle.meaning.specs.Equality.{Equal, given, repAt, Promise}
-use Rattle.meaning.specs.Formed.{Fit, Within}
+use Rattle.meaning.specs.Formed.{Ordered, Fit, Within}
 use Rattle.meaning.specs.Closing.{total, upto, count}
 use Rattle.meaning.proofs.Promised.{closed-representatives}
 use Rattle.meaning.proofs.Closes.{length-count}
 use Rattle.runs.specs.Runs.{rowCount, saidCount, kindIn, leftIn, rightIn, rowsOf, statementsOf, contextOf}
 use Rattle.runs.specs.Limits.{mostRows}
 use Rattle.runs.proofs.Saying.{length-rows}
-use Rattle.classes.specs.Steps.{Laid, merge, stateStep, Kept, Grown, Outcome, Alike, Pass, PassOn}
-use Rattle.classes.proofs.Merges.{kept-start, merge-outcome, merge-joins}
+use Rattle.classes.specs.Steps.{Laid, merge, stateStep, Kept, Grown, Outcome, Alike, Pass, PassOn, Met, Rounding}
+use Rattle.classes.proofs.Merges.{kept-start, outcome-then, merge-outcome, merge-joins}
 use Rattle.classes.proofs.Pairs.{pairAt, pairsFrom, isEquation, equations-are, pairs-place, pairs-from}
-
--- the sides of each equation have one representative
-abbrev pub Met : List (ℕ × ℕ) → List ℕ → Type 0
-Met eqs l = (p : ℕ) → p < length eqs → repAt l (leftAt eqs p) ≡ repAt l (rightAt eqs p)
 
 -- ---- the pass over the statements
 
@@ -124,118 +119,80 @@ met-promise c fit n e l kept met alike =
       others = λ i h k. absurd (omega arith);
     }
 
--- ---- the loop of passes over the rows
-pub record Rounding (run said l t : List ℕ) (old : ℕ) : Type 0 where
-  pub fit : Fit (contextOf run said)
-  pub laid : Laid run
-  pub kept : Kept (rowsOf run) (equationsOf (statementsOf said)) t
-  pub met : Met (equationsOf (statementsOf said)) t
-  pub so : old ≡ total (length t) (repAt t)
-  pub small : length t ≤ mostRows
-  pub stays : length t ≡ length l
+-- ---- the equations joined
 
-pub start-fits : (run l t : List ℕ) → Laid run → l ≡ count (rowCount run) 0 → length t ≡ length l → length t ≤ mostRows
+pub start-fits : (run l t : List ℕ) → Laid run → l ≡ count (rowCount run) 0 → length t ≡ length l → length t ≤ 65535
 start-fits run l t laid e h = omega (arith, laid .room, ap length e, length-count (rowCount run) 0)
 
-module _ (run said l t : List ℕ) (laid : Laid run) (fit : Fit (contextOf run said)) (el : l ≡ count (rowCount run) 0) where
+pub rounding-start : (run said l t : List ℕ) (sum : ℕ) → Laid run → Fit (contextOf run said) → l ≡ count (rowCount run) 0
+    → t ≡ upto (saidCount said) (stateStep said) l → sum ≡ total (length t) (repAt t) → Rounding run said t sum
+rounding-start run said l t sum laid fit el et s = record { fit = fit; laid = laid; kept = w .0; met = w .1; so = s }
+  where
+    R : List Row
+    R = rowsOf run
+
+    E : List (ℕ × ℕ)
+    E = equationsOf (statementsOf said)
+
+    start : Kept R (pairsFrom (isEquation said) said (saidCount said)) l
+    start = rw (el, ← length-rows run) (kept-start R (pairsFrom (isEquation said) said (saidCount said)))
+
+    w : Kept R E t × Met E t
+    w = rw (et, equations-are said) (stated-joins R said (saidCount said) (subst (Within (length R)) (equations-are said) (fit .within)) l start)
+
+-- ---- a round: a pass, and where it changed something, one that follows up its merges
+
+module _ {rows : List Row} {l u : List ℕ} {old fresh : ℕ} (p : Pass rows l u fresh) (so : old ≡ total (length l) (repAt l)) where
+  sums : {eqs : List (ℕ × ℕ)} {x : List ℕ} → Kept rows eqs x → total (length rows) (repAt x) ≡ total (length x) (repAt x)
+  sums {eqs} {x} kept = ap (λ (n : ℕ). total n (repAt x)) (sym (kept .long))
+
+  pub round-on : {v : List ℕ} {last : ℕ} → PassOn rows u v last → (fresh ≡ old → ⊥) → Pass rows l v last
+  round-on {v} {last} q d = record { passed = record { outcome = λ eqs ordered kept. both eqs ordered kept }; sum = q .sum }
+    where
+      both : (eqs : List (ℕ × ℕ)) → Ordered rows → Kept rows eqs l → Outcome rows eqs (Alike rows (length rows) l) l v
+      both eqs ordered kept =
+          let one : Outcome rows eqs (Alike rows (length rows) l) l u = p .passed .outcome eqs ordered kept in
+          let two : Outcome rows eqs (Unit {0}) u v = q .nearer .outcome eqs ordered (one .kept) in
+          outcome-then rows eqs one two
+          (λ e a t. absurd (d (p .sum ∙ ap (λ (x : List ℕ). total (length x) (repAt x)) e ∙ sym so)))
+
+-- ---- the loop of rounds
+
+module _ {run said l u : List ℕ} {old fresh : ℕ} (r : Rounding run said l old) (p : Pass (rowsOf run) l u fresh) where
   abbrev R : List Row
   R = rowsOf run
 
   abbrev E : List (ℕ × ℕ)
   E = equationsOf (statementsOf said)
 
-  pub rounding-start : (old : ℕ) → t ≡ upto (saidCount said) (stateStep said) l → old ≡ total (length t) (repAt t) → Rounding run said l t old
-  rounding-start old et s =
-      record {
-        fit = fit;
-        laid = laid;
-        kept = w .0;
-        met = w .1;
-        so = s;
-        small = omega (arith, w .0 .long, length-rows run, laid .room);
-        stays = w .0 .long ∙ length-rows run ∙ sym (ap length el ∙ length-count (rowCount run) 0);
-      }
-    where
-      start : Kept R (pairsFrom (isEquation said) said (saidCount said)) l
-      start = rw (el, ← length-rows run) (kept-start R (pairsFrom (isEquation said) said (saidCount said)))
-
-      w : Kept R E t × Met E t
-      w = rw (et, equations-are said) (stated-joins R said (saidCount said) (subst (Within (length R)) (equations-are said) (fit .within)) l start)
-
-module _ {run said k l u : List ℕ} {old fresh : ℕ} (r : Rounding run said k l old) (p : Pass (rowsOf run) l u fresh) where
-  abbrev R′ : List Row
-  R′ = rowsOf run
-
-  abbrev E′ : List (ℕ × ℕ)
-  E′ = equationsOf (statementsOf said)
-
-  outcome : Outcome R′ E′ (Alike R′ (length R′) l) l u
-  outcome = p .passed .outcome E′ (r .fit .ordered) (r .kept)
+  outcome : Outcome R E (Alike R (length R) l) l u
+  outcome = p .passed .outcome E (r .fit .ordered) (r .kept)
 
   -- equations that are met stay so
-  met-then : (v x : List ℕ) → Grown (length R′) v x → Met E′ v → Met E′ x
-  met-then v x g met p h =
-      let w : (leftAt E′ p < length R′) × (rightAt E′ p < length R′) = r .fit .within p h in
-      g (leftAt E′ p) (rightAt E′ p) (w .0) (w .1) (met p h)
+  met-then : Met E u
+  met-then p h =
+      let w : (leftAt E p < length R) × (rightAt E p < length R) = r .fit .within p h in
+      outcome .grown (leftAt E p) (rightAt E p) (w .0) (w .1) (r .met p h)
 
-  sums : {x : List ℕ} → Kept R′ E′ x → total (length R′) (repAt x) ≡ total (length x) (repAt x)
-  sums {x} kept = ap (λ (n : ℕ). total n (repAt x)) (sym (kept .long))
+  pub rounding-next : Rounding run said u fresh
+  rounding-next = record { fit = r .fit; laid = r .laid; kept = outcome .kept; met = met-then; so = p .sum }
 
-  -- the next table, whatever led to it
-  step : {x : List ℕ} {s : ℕ} → Kept R′ E′ x → Met E′ x → s ≡ total (length x) (repAt x) → Rounding run said k x s
-  step {x} {s} kept met e =
-      record {
-        fit = r .fit;
-        laid = r .laid;
-        kept = kept;
-        met = met;
-        so = e;
-        small = omega (arith, kept .long, r .kept .long, r .small);
-        stays = omega (arith, kept .long, r .kept .long, r .stays);
-      }
-
-  pub rounding-next : Rounding run said k u fresh
-  rounding-next = step (outcome .kept) (met-then l u (outcome .grown) (r .met)) (p .sum)
+  pub rounding-less : (fresh ≡ old → ⊥) → fresh < old
+  rounding-less d =
+      ⊎-elim (λ w. absurd (d (p .sum ∙ ap (λ (x : List ℕ). total (length x) (repAt x)) (w .0) ∙ sym (r .so))))
+      (λ w. omega (arith, w, sums p (r .so) (r .kept), sums p (r .so) (outcome .kept), r .so, p .sum)) (outcome .did)
 
   pub rounding-ends : fresh ≡ old → Promise (contextOf run said) (rowCount run) u
   rounding-ends e =
-      met-promise (contextOf run said) (r .fit) (rowCount run) (length-rows run) u (outcome .kept) (met-then l u (outcome .grown) (r .met))
-      (⊎-elim (λ w. subst (Alike R′ (length R′)) (sym (w .0)) (w .1)) (λ w. absurd (omega (arith, w, sums (r .kept), sums (outcome .kept), r .so, p .sum))) (outcome .did))
+      met-promise (contextOf run said) (r .fit) (rowCount run) (length-rows run) u (outcome .kept) met-then
+      (⊎-elim (λ w. subst (Alike R (length R)) (sym (w .0)) (w .1))
+      (λ w. absurd (omega (arith, w, sums p (r .so) (r .kept), sums p (r .so) (outcome .kept), r .so, p .sum))) (outcome .did))
 
-  -- a pass that changed something, and the merges that follow
-  module _ {v : List ℕ} {last : ℕ} (q : PassOn R′ u v last) where
-    then : Outcome R′ E′ (Unit {0}) u v
-    then = q .nearer .outcome E′ (r .fit .ordered) (outcome .kept)
+pub rounding-fits : {run said t : List ℕ} {old : ℕ} → Rounding run said t old → length t ≤ mostRows
+rounding-fits {run} r = omega (arith, r .kept .long, length-rows run, r .laid .room)
 
-    falls : total (length R′) (repAt v) ≤ total (length R′) (repAt u)
-    falls =
-        ⊎-elim (λ w. let e : total (length R′) (repAt v) ≡ total (length R′) (repAt u) = ap (λ (x : List ℕ). total (length R′) (repAt x)) (w .0) in omega arith)
-        (λ w. omega (arith, w)) (then .did)
+-- the table has as many places as it had at the start
+pub rounding-stays : {run said t : List ℕ} {old : ℕ} (l u : List ℕ) → l ≡ count (rowCount run) 0 → Rounding run said t old → length u ≡ length t → length u ≡ length l
+rounding-stays {run} l u el r e = omega (arith, r .kept .long, length-rows run, ap length el, length-count (rowCount run) 0)
 
-    pub rounding-less : (fresh ≡ old → ⊥) → last < old
-    rounding-less d =
-        ⊎-elim (λ w. absurd (d (p .sum ∙ ap (λ (x : List ℕ). total (length x) (repAt x)) (w .0) ∙ sym (r .so))))
-        (λ w. omega (arith, w, sums (r .kept), sums (outcome .kept), sums (then .kept), r .so, p .sum, q .sum, falls)) (outcome .did)
-
-    pub rounding-again : Rounding run said k v last
-    rounding-again = step (then .kept) (met-then u v (then .grown) (met-then l u (outcome .grown) (r .met))) (q .sum)
-
--- before the loop: the equations are joined, and one pass is made
-module _ (run said l t u : List ℕ) (start old : ℕ) (laid : Laid run) (fit : Fit (contextOf run said)) (el : l ≡ count (rowCount run) 0)
-    (et : t ≡ upto (saidCount said) (stateStep said) l) (es : start ≡ total (length t) (repAt t)) (p : Pass (rowsOf run) t u old) where
-  first : Rounding run said l t start
-  first = rounding-start run said l t laid fit el start et es
-
-  pub first-ends : old ≡ start → Promise (contextOf run said) (rowCount run) u
-  first-ends = rounding-ends first p
-
-  pub first-enter : Rounding run said u u old
-  first-enter = let r : Rounding run said l u old = rounding-next first p in record { fit = fit; laid = laid; kept = r .kept; met = r .met; so = r .so; small = r .small; stays = refl }
-
-pub rounding-fits : {run said l t : List ℕ} {old : ℕ} (u : List ℕ) → Rounding run said l t old → length u ≡ length t → length u ≤ mostRows
-rounding-fits u r e = omega (arith, r .small)
-
-pub sum-fits : (t u : List ℕ) → length t ≤ mostRows → length u ≡ length t → length u ≤ 65535
-sum-fits t u h e = omega arith
-
-pub ruleset mine = (needs, start-fits, sum-fits, rounding-ends, rounding-fits)
+pub ruleset mine = (needs, start-fits, rounding-start, round-on, rounding-next, rounding-less, rounding-ends, rounding-fits, rounding-stays)

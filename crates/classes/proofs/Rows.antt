@@ -1,7 +1,7 @@
 -- Rows read from a run: two rows compared, and the key of a row's chain.
 --     mine                  what `same_args`, `agree`, `mixed` and `chain` leave to show
 -- Assumes nothing.
-use mathlib.Core.Bool.{Bool, true, false, _&&_}
+use mathlib.Core.Bool.{Bool, true, false, not, _&&_}
 use mathlib.Core.List.{List, [], _∷_, _++_}
 use mathlib.Core.Path.{_≡_, refl, ap, ap₂, sym, _∙_}
 use Prim.Native.Nat.{ℕ, suc, _+_, _*_, _%_, _≤_, _<_}
@@ -11,16 +11,27 @@ use lib.Dec.{eqb}
 use lib.ListN.{length, getD, take, drop, length-map, drop-of-length-le}
 use lib.Seq.{drop-cons, take-suc, take-length}
 use borrow.Author.Needs.{needs}
-use borrow.Author.Tests.{eq-eqb, ne-eqb}
+use borrow.Author.Tests.{eqb-true, eqb-false, eq-eqb, ne-eqb}
 use Rattle.meaning.specs.Equality.{repAt}
 use Rattle.meaning.specs.ByTable.{sameList}
 use Rattle.meaning.specs.Closing.{agree}
+use Rattle.meaning.proofs.Logic.{and-true-left, and-true-right, false-true}
 use Rattle.meaning.proofs.Lists.{sameList-true}
 use Rattle.meaning.proofs.Closes.{repAt-map}
 use Rattle.runs.specs.Limits.{rowSize}
 use Rattle.runs.specs.Runs.{argsFrom, rowCount, symbolIn, countIn, argIn, rowsOf}
 use Rattle.runs.proofs.Saying.{rows-at, arg-at, args-length}
-use Rattle.classes.specs.Steps.{chains, Laid, Seated, argReps, sameArgs, mix, keyOf}
+use Rattle.classes.specs.Steps.{chains, Laid, Seated, argReps, sameArg, sameArgs, sameShape, mix, keyOf}
+
+-- ---- a flag that is asked the other way round
+
+holds : (r : Bool) → not r ≡ false → r ≡ true
+holds true e = refl
+holds false e = sym e
+
+fails : (r : Bool) → not r ≡ true → r ≡ false
+fails true e = sym e
+fails false e = refl
 
 -- ---- two lists compared from their start: the first k elements are the same
 pub record Comparing (l m : List ℕ) (k : ℕ) : Type 0 where
@@ -78,22 +89,24 @@ module _ {run t : List ℕ} {i j count k : ℕ} (g : Agreeing run t i j count k)
   long-left : length (argReps run t i count) ≡ count
   long-left = length-reps run t i count (g .first)
 
-  module _ {a b : ℕ} (h : k < count) (ea : a ≡ repAt t (argIn run i k)) (eb : b ≡ repAt t (argIn run j k)) where
-    at-left : getD (argReps run t i count) k 0 ≡ a
-    at-left = reps-at run t i count (g .first) k h ∙ sym ea
+  module _ {r : Bool} (h : k < count) (er : r ≡ sameArg run t i j k) where
+    at-left : getD (argReps run t i count) k 0 ≡ repAt t (argIn run i k)
+    at-left = reps-at run t i count (g .first) k h
 
-    at-right : getD (argReps run t j count) k 0 ≡ b
-    at-right = reps-at run t j count (g .second) k h ∙ sym eb
+    at-right : getD (argReps run t j count) k 0 ≡ repAt t (argIn run j k)
+    at-right = reps-at run t j count (g .second) k h
 
     in-left : k < length (argReps run t i count)
     in-left = omega (arith, long-left)
 
-    pub agreeing-next : a ≡ b → Agreeing run t i j count (k + 1)
-    agreeing-next e = record { first = g .first; second = g .second; lists = comparing-next (g .lists) in-left (at-left ∙ e ∙ sym at-right) }
+    pub agreeing-next : not r ≡ false → Agreeing run t i j count (k + 1)
+    unfolding sameArg
+    agreeing-next e =
+        record { first = g .first; second = g .second; lists = comparing-next (g .lists) in-left (at-left ∙ eqb-true _ _ (sym er ∙ holds r e) ∙ sym at-right) }
 
-    pub agreeing-differs : (a ≡ b → ⊥) → false ≡ sameArgs run t i j count
-    unfolding sameArgs
-    agreeing-differs d = comparing-differs (g .lists) in-left (λ e. d (sym at-left ∙ e ∙ at-right))
+    pub agreeing-differs : not r ≡ true → false ≡ sameArgs run t i j count
+    unfolding sameArg sameArgs
+    agreeing-differs e = comparing-differs (g .lists) in-left (λ q. eqb-false _ _ (sym er ∙ fails r e) (sym at-left ∙ q ∙ at-right))
 
   pub agreeing-done : count ≤ k → true ≡ sameArgs run t i j count
   unfolding sameArgs
@@ -101,46 +114,74 @@ module _ {run t : List ℕ} {i j count k : ℕ} (g : Agreeing run t i j count k)
 
 -- ---- two rows compared
 
+module _ (run : List ℕ) (i j p q : ℕ) (ep : p ≡ symbolIn run i) (eq : q ≡ symbolIn run j) where
+  pub shape-symbols : (p ≡ q → ⊥) → false ≡ sameShape run i j
+  unfolding sameShape
+  shape-symbols d = rw (ne-eqb (symbolIn run i) (symbolIn run j) (λ e. d (ep ∙ e ∙ sym eq)))
+
+  pub shape-counts : (c d : ℕ) → p ≡ q → c ≡ countIn run i → d ≡ countIn run j → eqb c d ≡ sameShape run i j
+  unfolding sameShape
+  shape-counts c d e ec ed = rw (eq-eqb (symbolIn run i) (symbolIn run j) (sym ep ∙ e ∙ eq), ec, ed)
+
 module _ (run t : List ℕ) (i j : ℕ) (laid : Laid run) (hi : i < rowCount run) (hj : j < rowCount run) where
   agree-in : agree (rowsOf run) t i j
       ≡ (eqb (symbolIn run i) (symbolIn run j) && sameList (argReps run t i (countIn run i)) (argReps run t j (countIn run j)))
   unfolding agree
   agree-in = rw (rows-at run i hi, rows-at run j hj)
 
-  module _ (p q : ℕ) (ep : p ≡ symbolIn run i) (eq : q ≡ symbolIn run j) where
-    pub agree-symbols : (p ≡ q → ⊥) → false ≡ agree (rowsOf run) t i j
-    agree-symbols d = sym (agree-in ∙ rw (ne-eqb (symbolIn run i) (symbolIn run j) (λ e. d (ep ∙ e ∙ sym eq))))
+  module _ (s : Bool) (es : s ≡ sameShape run i j) where
+    pub agree-shapes : not s ≡ true → false ≡ agree (rowsOf run) t i j
+    unfolding sameShape
+    agree-shapes d = go (eqb (symbolIn run i) (symbolIn run j)) refl (sameList l m) refl
+      where
+        l : List ℕ
+        l = argReps run t i (countIn run i)
 
-    module _ (e : p ≡ q) (c d : ℕ) (ec : c ≡ countIn run i) (ed : d ≡ countIn run j) where
-      agree-lists : sameList (argReps run t i (countIn run i)) (argReps run t j (countIn run j)) ≡ agree (rowsOf run) t i j
-      agree-lists = sym (agree-in ∙ rw (eq-eqb (symbolIn run i) (symbolIn run j) (sym ep ∙ e ∙ eq)))
+        m : List ℕ
+        m = argReps run t j (countIn run j)
 
-      pub agree-counts : (c ≡ d → ⊥) → false ≡ agree (rowsOf run) t i j
-      agree-counts n = go (sameList l m) refl ∙ agree-lists
-        where
-          l : List ℕ
-          l = argReps run t i (countIn run i)
+        long : (k : ℕ) → k < rowCount run → length (argReps run t k (countIn run k)) ≡ countIn run k
+        long k h = length-reps run t k (countIn run k) (record { inside = h; four = laid .few k h })
 
-          m : List ℕ
-          m = argReps run t j (countIn run j)
+        shapes : (eqb (symbolIn run i) (symbolIn run j) && eqb (countIn run i) (countIn run j)) ≡ false
+        shapes = sym es ∙ fails s d
 
-          long : (k : ℕ) → k < rowCount run → length (argReps run t k (countIn run k)) ≡ countIn run k
-          long k h = length-reps run t k (countIn run k) (record { inside = h; four = laid .few k h })
+        go : (x : Bool) → eqb (symbolIn run i) (symbolIn run j) ≡ x → (y : Bool) → sameList l m ≡ y → false ≡ agree (rowsOf run) t i j
+        go false e y f = sym (agree-in ∙ rw e refl)
+        go true e false f = sym (agree-in ∙ rw (e, f) refl)
+        go true e true f =
+            let n : eqb (countIn run i) (countIn run j) ≡ true = eq-eqb _ _ (sym (long i hi) ∙ ap length (sameList-true l m f) ∙ long j hj) in
+            let w : (eqb (symbolIn run i) (symbolIn run j) && eqb (countIn run i) (countIn run j)) ≡ true = rw (e, n) refl in
+            false-true w shapes
 
-          go : (b : Bool) → sameList l m ≡ b → false ≡ sameList l m
-          go false f = sym f
-          go true f = absurd (n (ec ∙ sym (long i hi) ∙ ap length (sameList-true l m f) ∙ long j hj ∙ sym ed))
+    pub agree-args : (c : ℕ) (r : Bool) → not s ≡ false → c ≡ countIn run i → r ≡ sameArgs run t i j c → r ≡ agree (rowsOf run) t i j
+    unfolding sameShape sameArgs
+    agree-args c r e ec er =
+        er ∙ ap₂ (λ (x y : ℕ). sameList (argReps run t i x) (argReps run t j y)) ec (ec ∙ eqb-true _ _ (and-true-right a b (sym es ∙ holds s e)))
+        ∙ sym (agree-in ∙ rw (and-true-left a b (sym es ∙ holds s e)))
+      where
+        a : Bool
+        a = eqb (symbolIn run i) (symbolIn run j)
 
-      pub agree-args : (r : Bool) → c ≡ d → r ≡ sameArgs run t i j c → r ≡ agree (rowsOf run) t i j
-      unfolding sameArgs
-      agree-args r f er = er ∙ ap₂ (λ (x y : ℕ). sameList (argReps run t i x) (argReps run t j y)) ec (f ∙ ed) ∙ agree-lists
+        b : Bool
+        b = eqb (countIn run i) (countIn run j)
 
 -- the counts of rows that are there
 pub seated-own : (run : List ℕ) (i c : ℕ) → Laid run → i < rowCount run → c ≡ countIn run i → Seated run i c
 seated-own run i c laid h e = record { inside = h; four = omega (arith, laid .few i h) }
 
-pub seated-other : (run : List ℕ) (i c d : ℕ) → Laid run → i < rowCount run → d ≡ countIn run i → c ≡ d → Seated run i c
-seated-other run i c d laid h e f = record { inside = h; four = omega (arith, laid .few i h) }
+-- rows of one shape have one count
+pub seated-other : (run : List ℕ) (i j c : ℕ) (s : Bool) → Laid run → i < rowCount run → j < rowCount run → s ≡ sameShape run i j → not s ≡ false
+    → c ≡ countIn run i → Seated run j c
+unfolding sameShape
+seated-other run i j c s laid hi hj es e ec =
+    let f : countIn run i ≡ countIn run j = eqb-true _ _ (and-true-right (eqb (symbolIn run i) (symbolIn run j)) _ (sym es ∙ holds s e)) in
+    record { inside = hj; four = omega (arith, laid .few i hi) }
+
+-- arguments with one representative
+pub same-arg : (run t : List ℕ) (i j k a b : ℕ) → a ≡ repAt t (argIn run i k) → b ≡ repAt t (argIn run j k) → eqb a b ≡ sameArg run t i j k
+unfolding sameArg
+same-arg run t i j k a b ea eb = rw (ea, eb)
 
 -- the representative of an argument
 pub arg-class : (run t : List ℕ) (i k x r : ℕ) → x ≡ argIn run i k → r ≡ repAt t x → r ≡ repAt t (argIn run i k)
@@ -204,11 +245,13 @@ pub ruleset mine = (
   agreeing-next,
   agreeing-differs,
   agreeing-done,
-  agree-symbols,
-  agree-counts,
+  shape-symbols,
+  shape-counts,
+  agree-shapes,
   agree-args,
   seated-own,
   seated-other,
+  same-arg,
   arg-class,
   mixing-start,
   mixing-next,

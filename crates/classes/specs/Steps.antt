@@ -1,13 +1,14 @@
 -- What the functions below `close`, `clash` and `apart` ask and answer.
 --     chains, mostArgs                how many there are of each
 --     Laid, Seated                    rows that have their places
---     argReps, sameArgs               two rows compared
+--     argReps, sameArg .. sameArgs    two rows compared
 --     moveFrom, merge                 one merge
 --     stateStep                       one statement of a pass over the statements
---     mix, keyOf, Last, Mate, Joined  chains of rows, and the search along one
---     Kept, Grown, Outcome, Passed    the table between passes, and what a pass does to it
+--     mix, keyOf, Last .. Visited     chains of rows, and the search along one
+--     Kept, Grown, Outcome, Passed    what holds of the table, and what a pass does to it
 --     Found, Nearer                   merges that follow a merge
 --     Pass, PassOn                    a pass with the sum after it
+--     Met, Rounding                   the table between passes, with its sum
 --     differenceAt .. apartAt         one statement, as `clash` and `apart` read it
 -- Assumes nothing.
 use mathlib.Core.Bool.{Bool, true, false, not, _&&_, _||_}
@@ -16,14 +17,14 @@ use mathlib.Core.Path.{_≡_}
 use mathlib.Core.Logic.{_⊎_}
 use Prim.Native.Nat.{ℕ, zero, suc, _+_, _*_, _%_, _≤_, _<_}
 use lib.Dec.{eqb, ltb}
-use lib.ListN.{length, getD, take, drop}
-use Rattle.meaning.specs.Context.{Row, rowAt}
+use lib.ListN.{length, getD, set, take, drop}
+use Rattle.meaning.specs.Context.{Row, rowAt, equationsOf, leftAt, rightAt}
 use Rattle.meaning.specs.Equality.{repAt}
-use Rattle.meaning.specs.Formed.{Ordered}
+use Rattle.meaning.specs.Formed.{Ordered, Fit}
 use Rattle.meaning.specs.ByTable.{sameList}
 use Rattle.meaning.specs.Closing.{Sofar, move, total, agree}
 use Rattle.runs.specs.Limits.{mostRows, rowSize, argPlaces}
-use Rattle.runs.specs.Runs.{argsFrom, rowCount, countIn, kindIn, leftIn, rightIn}
+use Rattle.runs.specs.Runs.{argsFrom, rowCount, symbolIn, countIn, argIn, kindIn, leftIn, rightIn, rowsOf, statementsOf, contextOf}
 
 -- how many chains rows are kept on, and how many places of arguments the links lead over
 abbrev pub chains : ℕ
@@ -45,6 +46,14 @@ pub record Seated (run : List ℕ) (i count : ℕ) : Type 0 where
 -- the representatives of the first count arguments of row i
 abbrev pub argReps : List ℕ → List ℕ → ℕ → ℕ → List ℕ
 argReps run t i count = map (repAt t) (argsFrom run (i * rowSize + 2) count)
+
+-- argument k of rows i and j has one representative
+unfoldable pub sameArg : List ℕ → List ℕ → ℕ → ℕ → ℕ → Bool
+sameArg run t i j k = eqb (repAt t (argIn run i k)) (repAt t (argIn run j k))
+
+-- rows i and j have one symbol, and as many arguments
+unfoldable pub sameShape : List ℕ → ℕ → ℕ → Bool
+sameShape run i j = eqb (symbolIn run i) (symbolIn run j) && eqb (countIn run i) (countIn run j)
 
 unfoldable pub sameArgs : List ℕ → List ℕ → ℕ → ℕ → ℕ → Bool
 sameArgs run t i j count = sameList (argReps run t i count) (argReps run t j count)
@@ -105,6 +114,19 @@ pub record Joined (rows : List Row) (next : List ℕ) (i head : ℕ) (l m : List
   pub mate : Mate rows l next i head at
   pub so : m ≡ mergeAt i at l
 
+-- what keeps the search among the first n rows inside the table
+pub record Bounded (heads next : List ℕ) (n : ℕ) : Type 0 where
+  pub long-heads : length heads ≡ chains
+  pub long-next : length next ≡ mostRows
+  pub heads-low : (b : ℕ) → b < chains → getD heads b 0 ≤ n
+  pub nexts-low : (j : ℕ) → j < n → getD next j 0 ≤ j
+
+-- row i and its mate have one representative, and row i is the head of its chain
+pub record Visited (rows : List Row) (i : ℕ) (l m heads heads′ next next′ : List ℕ) : Type 0 where
+  pub joined : Joined rows next i (getD heads (keyOf rows l i) 0) l m
+  pub head : heads′ ≡ set heads (keyOf rows l i) (i + 1)
+  pub link : next′ ≡ set next i (getD heads (keyOf rows l i) 0)
+
 -- ---- passes
 
 -- what holds of the table from the start to the end
@@ -151,6 +173,20 @@ pub record Pass (rows : List Row) (l m : List ℕ) (s : ℕ) : Type 0 where
 pub record PassOn (rows : List Row) (l m : List ℕ) (s : ℕ) : Type 0 where
   pub nearer : Nearer rows l m
   pub sum : s ≡ total (length m) (repAt m)
+
+-- ---- between passes
+
+-- the sides of each equation have one representative
+abbrev pub Met : List (ℕ × ℕ) → List ℕ → Type 0
+Met eqs l = (p : ℕ) → p < length eqs → repAt l (leftAt eqs p) ≡ repAt l (rightAt eqs p)
+
+-- a table t of the rows and the statements that are lent, with the sum of its representatives
+pub record Rounding (run said t : List ℕ) (sum : ℕ) : Type 0 where
+  pub fit : Fit (contextOf run said)
+  pub laid : Laid run
+  pub kept : Kept (rowsOf run) (equationsOf (statementsOf said)) t
+  pub met : Met (equationsOf (statementsOf said)) t
+  pub so : sum ≡ total (length t) (repAt t)
 
 -- ---- stated differences, by a table
 

@@ -26,11 +26,11 @@ ghost use Rattle.meaning.specs.Context.{differencesOf};
 ghost use Rattle.meaning.specs.Formed.{Fit};
 ghost use Rattle.meaning.specs.Equality.{repAt, Promise};
 ghost use Rattle.meaning.specs.ByTable.{clashOf, apartBy};
-ghost use Rattle.meaning.specs.Closing.{count as numbers};
+ghost use Rattle.meaning.specs.Closing.{total, count as numbers};
 ghost use Rattle.runs.specs.Runs.{rowCount, rowsOf, statementsOf, contextOf};
 ghost use Rattle.runs.specs.Limits.{mostRows, mostStatements};
 ghost use Rattle.classes.specs.Claims.{Closes, clashing};
-ghost use Rattle.classes.specs.Steps.{Laid, Pass, PassOn};
+ghost use Rattle.classes.specs.Steps.{Laid, Pass, PassOn, Rounding};
 
 pub enum Answer {
     Closed,
@@ -46,6 +46,17 @@ pub enum Contradiction {
 pub struct Classes {
     pub answer: Answer,
     pub table: [u16; ROWS],
+}
+
+// The stated equations are joined. The answer is the sum of the representatives after that.
+fn begin(rows: &[u16], said: &[u16], table: &mut [u16]) -> u32
+    requires { ⌜ Laid (now rows) ⌝ }
+    requires { ⌜ Fit (contextOf (now rows) (now said)) ⌝ }
+    requires { ⌜ now table ≡ numbers (rowCount (now rows)) 0 ⌝ }
+    ensures { λ r. ⌜ Rounding (now (rows .entry)) (now (said .entry)) (now (table .exit)) r ⌝ }
+{
+    join_stated(said, table);
+    sum(table)
 }
 
 // A pass over the rows. The answer is the sum of the representatives after it.
@@ -68,6 +79,20 @@ fn pass_on(rows: &[u16], table: &mut [u16]) -> u32
     sum(table)
 }
 
+// A pass over the rows, and where the sum is not the old one, another that follows up its merges.
+fn round(rows: &[u16], table: &mut [u16], old: u32) -> u32
+    requires { ⌜ Laid (now rows) ⌝ }
+    requires { ⌜ length (now table) ≤ mostRows ⌝ }
+    requires { ⌜ old ≡ total (length (now table)) (repAt (now table)) ⌝ }
+    ensures { λ r. ⌜ Pass (rowsOf (now (rows .entry))) (now (table .entry)) (now (table .exit)) r ⌝ }
+{
+    let fresh = pass(rows, table);
+    if fresh == old {
+        return fresh;
+    }
+    pass_on(rows, table)
+}
+
 // The stated equations, and then passes over the rows till the sum of the representatives stays. Rows that have one representative keep it
 // in common, so the equations are joined once. Most ledgers are done after a pass or two; where they are not, each further pass comes after
 // one that follows up its merges.
@@ -77,18 +102,17 @@ fn settle(rows: &[u16], said: &[u16], table: &mut [u16])
     requires { ⌜ now table ≡ numbers (rowCount (now rows)) 0 ⌝ }
     ensures { λ _. ⌜ Promise (contextOf (now (rows .entry)) (now (said .entry))) (rowCount (now (rows .entry))) (now (table .exit)) ⌝ }
 {
-    join_stated(said, table);
-    let start = sum(table);
+    let start = begin(rows, said, table);
     let mut old = pass(rows, table);
     if old == start {
         return;
     }
     loop {
-        let fresh = pass(rows, table);
+        let fresh = round(rows, table, old);
         if fresh == old {
             return;
         }
-        old = pass_on(rows, table);
+        old = fresh;
     }
 }
 

@@ -14,7 +14,7 @@ ghost use Rattle.meaning.specs.Equality.{repAt};
 ghost use Rattle.meaning.specs.Closing.{agree as agreed};
 ghost use Rattle.runs.specs.Limits.{mostRows, argPlaces};
 ghost use Rattle.runs.specs.Runs.{rowCount, argIn, rowsOf};
-ghost use Rattle.classes.specs.Steps.{chains, Laid, Seated, argReps, sameArgs, mix, keyOf, Mate, Joined, Passed};
+ghost use Rattle.classes.specs.Steps.{chains, Laid, Seated, argReps, sameArg, sameArgs, sameShape, mix, keyOf, Mate, Joined, Bounded, Visited, Passed};
 
 // Rows are kept on so many chains.
 pub(crate) const CHAINS: usize = 256;
@@ -28,6 +28,16 @@ pub(crate) fn arg_class(rows: &[u16], table: &[u16], i: usize, k: usize) -> u16
     at_row(table, arg_in(rows, i, k))
 }
 
+// Whether argument k of rows i and j has one representative.
+fn same_arg(rows: &[u16], table: &[u16], i: usize, j: usize, k: usize) -> bool
+    requires { ⌜ i < rowCount (now rows) ⌝ }
+    requires { ⌜ j < rowCount (now rows) ⌝ }
+    requires { ⌜ k < argPlaces ⌝ }
+    ensures { λ r. ⌜ r ≡ sameArg (now (rows .entry)) (now (table .entry)) i j k ⌝ }
+{
+    arg_class(rows, table, i, k) == arg_class(rows, table, j, k)
+}
+
 // Whether the first count arguments of rows i and j have the same representatives.
 fn same_args(rows: &[u16], table: &[u16], i: usize, j: usize, count: usize) -> bool
     requires { ⌜ Seated (now rows) i count ⌝ }
@@ -36,12 +46,24 @@ fn same_args(rows: &[u16], table: &[u16], i: usize, j: usize, count: usize) -> b
 {
     let mut k: usize = 0;
     while k < count {
-        if arg_class(rows, table, i, k) != arg_class(rows, table, j, k) {
+        if !same_arg(rows, table, i, j, k) {
             return false;
         }
         k += 1;
     }
     true
+}
+
+// Whether rows i and j have one symbol, and arguments in the same number.
+fn same_shape(rows: &[u16], i: usize, j: usize) -> bool
+    requires { ⌜ i < rowCount (now rows) ⌝ }
+    requires { ⌜ j < rowCount (now rows) ⌝ }
+    ensures { λ r. ⌜ r ≡ sameShape (now (rows .entry)) i j ⌝ }
+{
+    if symbol_in(rows, i) != symbol_in(rows, j) {
+        return false;
+    }
+    count_in(rows, i) == count_in(rows, j)
 }
 
 // Whether rows i and j have one symbol, and arguments with the same representatives.
@@ -51,14 +73,10 @@ pub(crate) fn agree(rows: &[u16], table: &[u16], i: usize, j: usize) -> bool
     requires { ⌜ j < rowCount (now rows) ⌝ }
     ensures { λ r. ⌜ r ≡ agreed (rowsOf (now (rows .entry))) (now (table .entry)) i j ⌝ }
 {
-    if symbol_in(rows, i) != symbol_in(rows, j) {
+    if !same_shape(rows, i, j) {
         return false;
     }
-    let count = count_in(rows, i);
-    if count != count_in(rows, j) {
-        return false;
-    }
-    same_args(rows, table, i, j, count)
+    same_args(rows, table, i, j, count_in(rows, i))
 }
 
 // The key s with the representatives of the first count arguments of row i mixed in.
@@ -136,6 +154,26 @@ pub(crate) fn no_rows() -> [u16; ROWS]
     [0; ROWS]
 }
 
+// Row i and its mate get one representative, and row i becomes the head of its chain.
+fn visit(
+    rows: &[u16],
+    table: &mut [u16],
+    heads: &mut [u16; CHAINS],
+    next: &mut [u16; ROWS],
+    i: usize,
+)
+    requires { ⌜ Laid (now rows) ⌝ }
+    requires { ⌜ i < rowCount (now rows) ⌝ }
+    requires { ⌜ Bounded (now heads) (now next) i ⌝ }
+    ensures { λ _. ⌜ Visited (rowsOf (now (rows .entry))) i (now (table .entry)) (now (table .exit)) (now (heads .entry)) (now (heads .exit)) (now (next .entry)) (now (next .exit)) ⌝ }
+{
+    let b = chain(rows, table, i);
+    let head = heads[b];
+    join_row(rows, table, next, i, usize_of_u16(head));
+    next[i] = head;
+    heads[b] = (i + 1) as u16;
+}
+
 // Each row and its mate get one representative. A chain's head is its last row, and next leads from a row to the one before it.
 pub(crate) fn join_rows(rows: &[u16], table: &mut [u16])
     requires { ⌜ Laid (now rows) ⌝ }
@@ -146,11 +184,7 @@ pub(crate) fn join_rows(rows: &[u16], table: &mut [u16])
     let mut next = no_rows();
     let mut i: usize = 0;
     while i < n {
-        let b = chain(rows, table, i);
-        let head = heads[b];
-        join_row(rows, table, &next, i, usize_of_u16(head));
-        next[i] = head;
-        heads[b] = (i + 1) as u16;
+        visit(rows, table, &mut heads, &mut next, i);
         i += 1;
     }
 }

@@ -127,15 +127,12 @@ fn wed(
     wake(links, woken, n, lower(a, b), higher(a, b))
 }
 
-// The last row that had row i's key, where it agrees with row i, as one more than its number, or 0.
-fn found(rows: &[u16], table: &[u16], heads: &mut [u16; CHAINS], i: usize) -> usize
+// A row, as one more than its number, where it is there and agrees with row i, or 0.
+fn agreeing(rows: &[u16], table: &[u16], i: usize, at: usize) -> usize
     requires { ⌜ Laid (now rows) ⌝ }
     requires { ⌜ i < rowCount (now rows) ⌝ }
     ensures { λ r. ⌜ Found (rowsOf (now (rows .entry))) (now (table .entry)) (rowCount (now (rows .entry))) i r ⌝ }
 {
-    let b = chain(rows, table, i);
-    let at = usize_of_u16(heads[b]);
-    heads[b] = (i + 1) as u16;
     if at == 0 {
         return 0;
     }
@@ -146,6 +143,18 @@ fn found(rows: &[u16], table: &[u16], heads: &mut [u16; CHAINS], i: usize) -> us
         return at;
     }
     0
+}
+
+// The last row that had row i's key, where it agrees with row i, as one more than its number, or 0.
+fn found(rows: &[u16], table: &[u16], heads: &mut [u16; CHAINS], i: usize) -> usize
+    requires { ⌜ Laid (now rows) ⌝ }
+    requires { ⌜ i < rowCount (now rows) ⌝ }
+    ensures { λ r. ⌜ Found (rowsOf (now (rows .entry))) (now (table .entry)) (rowCount (now (rows .entry))) i r ⌝ }
+{
+    let b = chain(rows, table, i);
+    let at = usize_of_u16(heads[b]);
+    heads[b] = (i + 1) as u16;
+    agreeing(rows, table, i, at)
 }
 
 // Row i and the row that is found for it get one representative. The answer is how many rows are woken.

@@ -1,14 +1,11 @@
--- `classes::mates::agree` meets its contract. The ways are two symbols, two counts, and the arguments compared.
+-- `classes::mates::agree` meets its contract. The ways are two shapes, and the arguments compared.
 -- Assumes nothing.
-use Rattle.classes.proofs.Rows.{seated-other, mine}
+use Rattle.classes.proofs.Rows.{mine}
 use Rattle.classes.proofs.mates.agree.Statement.{statement}
 use Rattle.classes.proofs.mates.agree.Tie as tie
 
-symbol-in-requires : tie.Need-symbol-in-requires
-symbol-in-requires c κs = search mine
-
-symbol-in-requires-2 : tie.Need-symbol-in-requires-2
-symbol-in-requires-2 c κs = search mine
+same-shape-requires : tie.Need-same-shape-requires
+same-shape-requires c κs = search mine
 
 returns : tie.Need-returns
 returns c = search mine
@@ -16,27 +13,12 @@ returns c = search mine
 count-in-requires : tie.Need-count-in-requires
 count-in-requires c κs = search mine
 
-count-in-requires-2 : tie.Need-count-in-requires-2
-count-in-requires-2 c κs = search mine
+same-args-requires : tie.Need-same-args-requires
+same-args-requires c κs = search mine
 
 returns-2 : tie.Need-returns-2
 returns-2 c = search mine
 
-same-args-requires : tie.Need-same-args-requires
-same-args-requires c κs = (search mine, seated-other _ _ _ _ (search mine) (search mine) (c .before .count-in2 .ensures) (c .if2 .left))
-
-returns-3 : tie.Need-returns-3
-returns-3 c = search mine
-
 pub agree-spec : {M : Type 1} → statement M
 agree-spec =
-    tie.close
-    (tie.spec
-    symbol-in-requires
-    symbol-in-requires-2
-    returns
-    count-in-requires
-    count-in-requires-2
-    returns-2
-    same-args-requires
-    returns-3)
+    tie.close (tie.spec same-shape-requires returns count-in-requires same-args-requires returns-2)

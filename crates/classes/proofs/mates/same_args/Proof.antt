@@ -1,6 +1,6 @@
 -- `classes::mates::same_args` meets its contract. The invariant: the first k arguments have the same representatives.
 -- Assumes nothing.
-use Rattle.classes.proofs.Rows.{Agreeing, agreeing-next, mine}
+use Rattle.classes.proofs.Rows.{Agreeing, mine}
 use Prim.Native.Nat.{_-_}
 use Rattle.classes.proofs.mates.same_args.Statement.{statement}
 use Rattle.classes.proofs.mates.same_args.Tie as tie
@@ -14,11 +14,8 @@ abbrev μ-loop : tie.MeasureT-loop
 loop-holds : tie.Need-loop-holds Inv-loop μ-loop
 loop-holds c = search mine
 
-arg-class-requires : tie.Need-arg-class-requires Inv-loop μ-loop
-arg-class-requires c κs = search mine
-
-arg-class-requires-2 : tie.Need-arg-class-requires-2 Inv-loop μ-loop
-arg-class-requires-2 c κs = search mine
+same-arg-requires : tie.Need-same-arg-requires Inv-loop μ-loop
+same-arg-requires c κs = search mine
 
 returns : tie.Need-returns Inv-loop μ-loop
 returns c = search mine
@@ -30,11 +27,7 @@ loop-less : tie.Need-loop-less Inv-loop μ-loop
 loop-less c = search mine
 
 loop-again : tie.Need-loop-again Inv-loop μ-loop
-loop-again c =
-    let two = c .before in
-    let one = two .before in
-    let turn = one .before in
-    agreeing-next (turn .before .loop .inv) (turn .loop-test .taken) (one .arg-class .ensures) (two .arg-class2 .ensures) (c .if1 .left)
+loop-again c = search mine
 
 returns-2 : tie.Need-returns-2 Inv-loop μ-loop
 returns-2 c = search mine
@@ -46,8 +39,7 @@ same-args-spec =
     Inv-loop
     μ-loop
     loop-holds
-    arg-class-requires
-    arg-class-requires-2
+    same-arg-requires
     returns
     add-k
     loop-less
