@@ -1,18 +1,23 @@
 -- The ways out of the leaf that tells what a call moved.
 --     failing-again, failing-left, failing-failed    what is behind an answer below 0
 --     moved-failing, moved-end, moved-bytes          an answer below 0, 0, or above
---     moves-within                                   bytes that were moved are at least one, and no more than there were
+--     moved-cast                                     an answer that is not below 0, by its bits
+--     moves-within, moves-part                       bytes that were moved are at least one, and no more than there were, in a part too
+--     mine                                           what the functions of `moves`, `read_on` and `write_on` leave to show
 -- Assumes nothing.
 use mathlib.Core.Bool.{Bool, true, false}
-use mathlib.Core.Path.{_≡_, refl, sym, _∙_}
-use Prim.Native.Nat.{ℕ, zero, suc}
+use mathlib.Core.List.{List}
+use mathlib.Core.Path.{_≡_, refl, ap, sym, _∙_, subst}
+use Prim.Native.Nat.{ℕ, zero, suc, _-_, _^_}
 use native.Mathlib.Omega.{arith}
 use borrow.Author.Needs.{needs}
 use borrow.Author.Tests.{eq-eqb, ne-eqb, ltb-true}
-use lib.Dec.{T, eqb}
+use lib.Dec.{T, eqb, ltb}
+use lib.ListN.{length, take, drop, length-drop}
+use lib.Seq.{take-all}
 use lib.IntN.{ℤ, pos, negsuc, natAbs}
-use lib.Signed.{ltZ, nonNeg, natAbs-le}
-use mir.Val.{Fits, SFits, ofZ, toZ}
+use lib.Signed.{ltZ, nonNeg}
+use mir.Val.{Fits, SFits, ofZ, toZ, sel}
 use mir.Facts.{toZ-ofZ}
 use mir.Syntax.{w32, w64}
 use Rattle.libc.specs.Io.{Moved}
@@ -51,13 +56,14 @@ moved-end (pos zero) error f h = refl
 moved-end (pos (suc n)) error f h = absurd (omega arith)
 moved-end (negsuc n) error f h = absurd (omega (arith, f .sfits))
 
-above : (z : ℤ) → ltZ z (pos 0) ≡ false → T (nonNeg z)
-above (pos n) h = tt
-above (negsuc n) h = absurd (let z : _≡_ {A = ℕ} 0 1 = cc in omega arith)
-
-pub moved-cast : (got : ℤ) → SFits w64 got → ltZ (toZ w64 (ofZ w64 got)) (pos 0) ≡ false
-    → T (nonNeg (toZ w64 (ofZ w64 got))) × Fits w64 (natAbs (toZ w64 (ofZ w64 got)))
-moved-cast got f h = (above (toZ w64 (ofZ w64 got)) h, rw (toZ-ofZ f) (record { fits = omega (arith, natAbs-le got (f .sfits)) }))
+-- a number at least 0, given by its bits
+pub moved-cast : (x : ℕ) → ltZ (toZ w64 x) (pos 0) ≡ false → T (nonNeg (toZ w64 x)) × Fits w64 (natAbs (toZ w64 x))
+moved-cast x h = go (ltb x (2 ^ 63)) refl h
+  where
+    go : (b : Bool) → ltb x (2 ^ 63) ≡ b → ltZ (sel b (pos x) (negsuc (2 ^ 64 - suc x))) (pos 0) ≡ false
+        → T (nonNeg (sel b (pos x) (negsuc (2 ^ 64 - suc x)))) × Fits w64 (natAbs (sel b (pos x) (negsuc (2 ^ 64 - suc x))))
+    go true e h = (tt, record { fits = omega (arith, ltb-true x (2 ^ 63) e) })
+    go false e h = absurd (let z : _≡_ {A = ℕ} 0 1 = cc in omega arith)
 
 pub moved-bytes : (got error : ℤ) → SFits w64 got → ltZ (toZ w64 (ofZ w64 got)) (pos 0) ≡ false → (ofZ w64 got ≡ 0 → ⊥)
     → Bytes (natAbs (toZ w64 (ofZ w64 got))) ≡ moveOf got error
@@ -95,4 +101,8 @@ moves-within (pos (suc k)) error m most e h =
 moves-within (negsuc k) error m most e h =
     record { some = λ n q. absurd (failing-none error n (sym e ∙ q)); few = λ n q. absurd (failing-none error n (sym e ∙ q)) }
 
-pub ruleset mine = (needs, failing-again, failing-left, failing-failed, moved-failing, moved-end, moved-cast, moved-bytes, moves-within)
+-- what was moved of a part from some place to the end
+pub moves-part : (m : Move) (l : List ℕ) (done : ℕ) → Moves m (length (take (length l - done) (drop done l))) → Moves m (length l - done)
+moves-part m l done h = subst (Moves m) (ap length (take-all (length l - done) (drop done l) (omega (arith, length-drop done l))) ∙ length-drop done l) h
+
+pub ruleset mine = (needs, failing-again, failing-left, failing-failed, moved-failing, moved-end, moved-cast, moved-bytes, moves-within, moves-part)

@@ -1,5 +1,6 @@
 -- What became of bytes that were handed over, part by part.
---     sends-whole, sends-stopped, sends-failed the ways out of `send`
+--     Sending, sending-whole                   so many bytes were taken; all were
+--     sends-stopped, sends-failed              the other ways out of `send`
 --     both-whole, both-left, both-failed       the ways out of `both`
 --     carries-none, carries-left, carries-both nothing; what was not taken whole; one part and then another
 --     delivers-one, delivers-none              bytes that are the output; what was not taken whole
@@ -8,19 +9,19 @@
 use mathlib.Core.Bool.{true, false}
 use mathlib.Core.List.{List, [], _++_}
 use mathlib.Core.Path.{_≡_, refl, sym, ap, _∙_}
-use Prim.Native.Nat.{ℕ, _+_, _%_, _^_, _≤_, _<_}
+use Prim.Native.Nat.{ℕ, _+_, _-_, _%_, _^_, _≤_, _<_}
 use native.Mathlib.Omega.{arith}
 use borrow.Author.Needs.{needs}
 use lib.ListN.{length, length-append}
+use mir.Val.{Fits}
+use mir.Syntax.{w64}
 use Rattle.channels.specs.declared.moves.Move.{Move}
 use Rattle.channels.specs.declared.moves.Move.the-variants as M
 use Rattle.channels.specs.declared.output.Fate.{Fate}
 use Rattle.channels.specs.declared.output.Fate.the-variants.{Whole, Left, Failed}
 use Rattle.channels.specs.declared.output.Sent.{Sent}
+use Rattle.channels.specs.Moves.{Moves}
 use Rattle.channels.specs.Sending.{stopOf, noneSent, bothOf, wholeBy, Carries, Delivers}
-
-pub sends-whole : (bytes : List ℕ) (done : ℕ) → done ≤ length bytes → length bytes ≤ done → length bytes < 2 ^ 64 → Carries bytes (record { fate = Whole; count = done })
-sends-whole bytes done h g f = record { size = λ e. omega arith }
 
 pub sends-stopped : (bytes : List ℕ) (done : ℕ) (m : Move) (f : Fate) → f ≡ stopOf m → Carries bytes (record { fate = f; count = done })
 sends-stopped bytes done m f h = record { size = λ e. absurd (go m (sym h ∙ e)) }
@@ -34,6 +35,28 @@ sends-stopped bytes done m f h = record { size = λ e. absurd (go m (sym h ∙ e
 
 pub sends-failed : (bytes : List ℕ) (done : ℕ) → Carries bytes (record { fate = Failed; count = done })
 sends-failed bytes done = record { size = λ e. absurd (let z : _≡_ {A = ℕ} 0 1 = cc in omega arith) }
+
+-- ---- bytes that are handed over: so many were taken
+pub record Sending (bytes : List ℕ) (done : ℕ) : Type 0 where
+  pub small : length bytes < 2 ^ 64
+  pub reach : done ≤ length bytes
+
+pub sending-start : (bytes : List ℕ) → length bytes < 2 ^ 64 → Sending bytes 0
+sending-start bytes h = record { small = h; reach = omega arith }
+
+module _ {bytes : List ℕ} {done : ℕ} (s : Sending bytes done) where
+  pub sending-whole : length bytes ≤ done → Carries bytes (record { fate = Whole; count = done })
+  sending-whole h = record { size = λ e. omega (arith, s .reach, s .small) }
+
+  module _ (m : Move) (n : ℕ) (moves : Moves m (length bytes - done)) (e : m ≡ M.Bytes n) where
+    pub sending-fits : Fits w64 (done + n)
+    sending-fits = record { fits = omega (arith, s .small, s .reach, moves .few n e) }
+
+    pub sending-next : Sending bytes (done + n)
+    sending-next = record { small = s .small; reach = omega (arith, s .reach, moves .few n e) }
+
+    pub sending-less : (tries : ℕ) → (length bytes - (done + n)) + tries < (length bytes - done) + tries
+    sending-less tries = omega (arith, s .reach, moves .some n e, moves .few n e)
 
 module _ (a b : Sent) where
   pub both-whole : a .fate ≡ Whole → (count : ℕ) → count ≡ (a .count + b .count) % 2 ^ 64 → record { fate = b .fate; count = count } ≡ bothOf (a .fate) a b
@@ -100,4 +123,4 @@ delivers-after P Q x a b r c d f e =
 pub delivers-none : (Prints : List ℕ → Type 0) (s : Sent) → wholeBy (s .fate) ≡ false → Delivers Prints s
 delivers-none Prints s h = record { whole = λ e. absurd (let z : true ≡ false = sym (ap wholeBy e) ∙ h in let y : _≡_ {A = ℕ} 0 1 = cc in omega arith) }
 
-pub ruleset mine = (needs, sends-whole, sends-stopped, sends-failed, both-whole, both-left, both-failed)
+pub ruleset mine = (needs, sending-start, sending-whole, sending-fits, sending-next, sending-less, sends-stopped, sends-failed, both-whole, both-left, both-failed)

@@ -3,9 +3,10 @@ use crate::moves::Move;
 use crate::moves::read_once;
 use replies::INPUT_LIMIT;
 ghost use mathlib.Core.Path.{_≡_};
-ghost use Prim.Native.Nat.{suc};
-ghost use lib.ListN.{replicate};
+ghost use Prim.Native.Nat.{suc, _-_, _≤_};
+ghost use lib.ListN.{length, replicate};
 ghost use Rattle.meaning.specs.Replies.{inputLimit};
+ghost use Rattle.channels.specs.Moves.{Moves};
 ghost use Rattle.channels.specs.Taking.{pieceSpace, endOf, Takes};
 
 // One byte more than a program takes, so that an input that is too long is known.
@@ -45,6 +46,14 @@ fn ended(moved: Move, done: usize) -> Got
     }
 }
 
+// Reads once, into the space that is left behind the bytes that were read.
+fn read_on(space: &mut [u8], done: usize) -> Move
+    requires { ⌜ done ≤ length (now space) ⌝ }
+    ensures { λ r. ⌜ Moves r (length (now (space .entry)) - done) ⌝ }
+{
+    read_once(libc::STDIN_FILENO, &mut space[done..])
+}
+
 // Reads until the space is full or the input ends. A read that a signal interrupted is tried again; nothing says that this ends, so the tries
 // are counted down from a number that no run uses up.
 fn fill(space: &mut [u8]) -> Got
@@ -53,7 +62,7 @@ fn fill(space: &mut [u8]) -> Got
     let mut done = 0;
     let mut tries = usize::MAX;
     while done < space.len() {
-        let moved = read_once(libc::STDIN_FILENO, &mut space[done..]);
+        let moved = read_on(space, done);
         match moved {
             Move::Bytes(n) => done += n,
             Move::Again => {

@@ -2,6 +2,9 @@
 use crate::moves::Move;
 use crate::moves::write_once;
 ghost use mathlib.Core.Path.{_≡_};
+ghost use Prim.Native.Nat.{_-_, _≤_};
+ghost use lib.ListN.{length};
+ghost use Rattle.channels.specs.Moves.{Moves};
 ghost use Rattle.channels.specs.Sending.{stopOf, Carries, noneSent, bothOf, wholeBy};
 
 // Every byte was taken; nobody reads any more; or it failed, which was said on standard error.
@@ -68,6 +71,14 @@ fn stopped(moved: Move) -> Fate
     }
 }
 
+// Writes once, of the bytes that are left.
+fn write_on(fd: i32, bytes: &[u8], done: usize) -> Move
+    requires { ⌜ done ≤ length (now bytes) ⌝ }
+    ensures { λ r. ⌜ Moves r (length (now (bytes .entry)) - done) ⌝ }
+{
+    write_once(fd, &bytes[done..])
+}
+
 // Writes until every byte is taken. A write that a signal interrupted is tried again, as a read is; one that takes nothing has failed.
 pub(crate) fn send(fd: i32, bytes: &[u8]) -> Sent
     ensures { λ r. ⌜ Carries (now (bytes .entry)) r ⌝ }
@@ -75,7 +86,7 @@ pub(crate) fn send(fd: i32, bytes: &[u8]) -> Sent
     let mut done = 0;
     let mut tries = usize::MAX;
     while done < bytes.len() {
-        let moved = write_once(fd, &bytes[done..]);
+        let moved = write_on(fd, bytes, done);
         match moved {
             Move::Bytes(n) => done += n,
             Move::Again => {

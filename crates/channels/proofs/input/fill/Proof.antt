@@ -1,15 +1,13 @@
 -- `channels::fill` meets its contract. The invariant: the space is as long as before, and what was read stands in it. A turn leaves less space, or fewer tries.
 -- Assumes nothing.
-use mathlib.Core.Path.{_≡_}
-use Prim.Native.Nat.{_+_, _-_, _≤_}
-use native.Mathlib.Omega.{arith}
+use Prim.Native.Nat.{_+_, _-_}
 use lib.ListN.{length}
-use Rattle.channels.proofs.Taking.{takes-ended, mine}
+use Rattle.channels.proofs.Taking.{Filling, mine}
 use Rattle.channels.proofs.input.fill.Statement.{statement}
 use Rattle.channels.proofs.input.fill.Tie as tie
 
 abbrev Inv-loop : tie.InvT-loop
-Inv-loop space₀ done₀ tries₀ space done tries = (length space ≡ length space₀) × (done ≤ length space)
+Inv-loop space₀ done₀ tries₀ space done tries = Filling space₀ space done
 
 abbrev μ-loop : tie.MeasureT-loop
 μ-loop space₀ done₀ tries₀ space done tries = (length space - done) + tries
@@ -17,29 +15,20 @@ abbrev μ-loop : tie.MeasureT-loop
 loop-holds : tie.Need-loop-holds Inv-loop μ-loop
 loop-holds c = search mine
 
-sub-read-once : tie.Need-sub-read-once Inv-loop μ-loop
-sub-read-once c = search mine
-
-part-read-once-start : tie.Need-part-read-once-start Inv-loop μ-loop
-part-read-once-start c = search mine
-
-part-read-once-end : tie.Need-part-read-once-end Inv-loop μ-loop
-part-read-once-end c = search mine
-
-read-once-requires : tie.Need-read-once-requires Inv-loop μ-loop
-read-once-requires c κs = search mine
+read-on-requires : tie.Need-read-on-requires Inv-loop μ-loop
+read-on-requires c κs = search mine
 
 enum-known-moved : tie.Need-enum-known-moved Inv-loop μ-loop
 enum-known-moved c = search mine
 
 add-done : tie.Need-add-done Inv-loop μ-loop
-add-done c = record { fits = omega (arith, c .before .before .before .before .before .read-once .ensures .few _ (c .before .moved .given .1)) }
+add-done c = search mine
 
 loop-less : tie.Need-loop-less Inv-loop μ-loop
-loop-less c = omega (arith, c .before .before .before .before .before .read-once .ensures .some _ (c .before .moved .given .1), c .before .before .before .before .before .read-once .ensures .few _ (c .before .moved .given .1))
+loop-less c = search mine
 
 loop-again : tie.Need-loop-again Inv-loop μ-loop
-loop-again c = (search mine, omega (arith, c .before .before .before .before .before .read-once .ensures .few _ (c .before .moved .given .1)))
+loop-again c = search mine
 
 enum-told : tie.Need-enum-told Inv-loop μ-loop
 enum-told c = search mine
@@ -66,7 +55,7 @@ same-length-2 : tie.Need-same-length-2 Inv-loop μ-loop
 same-length-2 c = search mine
 
 returns-2 : tie.Need-returns-2 Inv-loop μ-loop
-returns-2 c = takes-ended (c .before .before .before .before .read-once .result) (c .before .before .before .before .before .before .before .loop .done) _ _ (c .ended .ensures) (omega arith)
+returns-2 c = search mine
 
 same-length-3 : tie.Need-same-length-3 Inv-loop μ-loop
 same-length-3 c = search mine
@@ -81,10 +70,7 @@ fill-spec =
     Inv-loop
     μ-loop
     loop-holds
-    sub-read-once
-    part-read-once-start
-    part-read-once-end
-    read-once-requires
+    read-on-requires
     enum-known-moved
     add-done
     loop-less

@@ -1,6 +1,6 @@
 -- `channels::meant` meets its contract, by the sign of the answer.
 -- Assumes nothing.
-use Rattle.channels.proofs.Moving.{moved-failing, moved-cast, mine}
+use Rattle.channels.proofs.Moving.{mine}
 use Rattle.channels.proofs.moves.meant.Statement.{statement}
 use Rattle.channels.proofs.moves.meant.Tie as tie
 
@@ -8,13 +8,13 @@ behind-requires : tie.Need-behind-requires
 behind-requires c κs = search mine
 
 returns : tie.Need-returns
-returns c = moved-failing _ _ _ (c .before .before .fits .got) (c .before .before .fits .error) (c .before .if1 .taken) (c .behind .ensures)
+returns c = search mine
 
 returns-2 : tie.Need-returns-2
 returns-2 c = search mine
 
 cast-t4 : tie.Need-cast-t4
-cast-t4 c = moved-cast _ (c .before .before .fits .got) (c .before .if1 .left)
+cast-t4 c = search mine
 
 returns-3 : tie.Need-returns-3
 returns-3 c = search mine

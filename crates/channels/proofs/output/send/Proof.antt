@@ -1,14 +1,13 @@
 -- `channels::send` meets its contract. The invariant: no more was taken than there is. A turn leaves fewer bytes, or fewer tries.
 -- Assumes nothing.
-use Prim.Native.Nat.{_+_, _-_, _≤_}
-use native.Mathlib.Omega.{arith}
+use Prim.Native.Nat.{_+_, _-_}
 use lib.ListN.{length}
-use Rattle.channels.proofs.Sending.{mine}
+use Rattle.channels.proofs.Sending.{Sending, mine}
 use Rattle.channels.proofs.output.send.Statement.{statement}
 use Rattle.channels.proofs.output.send.Tie as tie
 
 abbrev Inv-loop : tie.InvT-loop
-Inv-loop fd bytes done₀ tries₀ done tries = done ≤ length bytes
+Inv-loop fd bytes done₀ tries₀ done tries = Sending bytes done
 
 abbrev μ-loop : tie.MeasureT-loop
 μ-loop fd bytes done₀ tries₀ done tries = (length bytes - done) + tries
@@ -16,29 +15,20 @@ abbrev μ-loop : tie.MeasureT-loop
 loop-holds : tie.Need-loop-holds Inv-loop μ-loop
 loop-holds c = search mine
 
-sub-write-once : tie.Need-sub-write-once Inv-loop μ-loop
-sub-write-once c = search mine
-
-part-write-once-start : tie.Need-part-write-once-start Inv-loop μ-loop
-part-write-once-start c = search mine
-
-part-write-once-end : tie.Need-part-write-once-end Inv-loop μ-loop
-part-write-once-end c = search mine
-
-write-once-requires : tie.Need-write-once-requires Inv-loop μ-loop
-write-once-requires c κs = search mine
+write-on-requires : tie.Need-write-on-requires Inv-loop μ-loop
+write-on-requires c κs = search mine
 
 enum-known-moved : tie.Need-enum-known-moved Inv-loop μ-loop
 enum-known-moved c = search mine
 
 add-done : tie.Need-add-done Inv-loop μ-loop
-add-done c = record { fits = omega (arith, c .before .before .before .write-once .ensures .few _ (c .before .moved .given .1)) }
+add-done c = search mine
 
 loop-less : tie.Need-loop-less Inv-loop μ-loop
-loop-less c = omega (arith, c .before .before .before .write-once .ensures .some _ (c .before .moved .given .1), c .before .before .before .write-once .ensures .few _ (c .before .moved .given .1))
+loop-less c = search mine
 
 loop-again : tie.Need-loop-again Inv-loop μ-loop
-loop-again c = omega (arith, c .before .before .before .write-once .ensures .few _ (c .before .moved .given .1))
+loop-again c = search mine
 
 enum-told : tie.Need-enum-told Inv-loop μ-loop
 enum-told c = search mine
@@ -71,10 +61,7 @@ send-spec =
     Inv-loop
     μ-loop
     loop-holds
-    sub-write-once
-    part-write-once-start
-    part-write-once-end
-    write-once-requires
+    write-on-requires
     enum-known-moved
     add-done
     loop-less
