@@ -101,6 +101,9 @@ module _ (kind : ℕ) where
   unfolding keptBy
   kept-difference b e f = rw (f, ne-eqb kind 2 e, keptBy)
 
+pub kept-there : (said : List ℕ) (s kind d : ℕ) (b : Bool) → kind ≡ kindIn said s → d ≡ keptBy kind b → d ≡ keptBy (kindIn said s) b
+kept-there said s kind d b e q = q ∙ ap (λ (z : ℕ). keptBy z b) e
+
 equations-snoc : (l : List Statement) (s : Statement) → equationsOf (l ++ (s ∷ [])) ≡ equationsOf l ++ equationsOf (s ∷ [])
 unfolding equationsOf
 equations-snoc [] s = refl
@@ -173,14 +176,11 @@ module _ (ns said : List ℕ) (b : Bool) (n : ℕ) (run₀ : List ℕ) where
       abbrev passed : List Statement
       passed = each (statementIn said) s
 
-      pub pairing-next : (kind d : ℕ) (exit : List ℕ) → kind ≡ kindIn said s → exit ≡ put pairSize run k (numbersOf ns said s) → (d ≡ keptBy kind b) × (d ≤ 1)
+      pub pairing-next : (d : ℕ) (exit : List ℕ) → exit ≡ put pairSize run k (numbersOf ns said s) → d ≡ keptBy (kindIn said s) b → d ≤ 1
           → Pairing ns said b n run₀ exit (k + d) (s + 1)
       unfolding each
-      pairing-next kind d exit ek ee ed = rw ee (go (pairs-more b passed (kindIn said s) (leftIn said s) (rightIn said s)))
+      pairing-next d exit ee kept one = rw ee (go (pairs-more b passed (kindIn said s) (leftIn said s) (rightIn said s)))
         where
-          kept : d ≡ keptBy (kindIn said s) b
-          kept = ed .0 ∙ ap (λ (z : ℕ). keptBy z b) ek
-
           go : OneMore b (each (statementIn said) s) (kindIn said s) (leftIn said s) (rightIn said s)
               → Pairing ns said b n run₀ (put pairSize run k (numbersOf ns said s)) (k + d) (s + 1)
           go (inl a) =
@@ -188,7 +188,7 @@ module _ (ns said : List ℕ) (b : Bool) (n : ℕ) (run₀ : List ℕ) where
               record {
                 count = w .count;
                 most = omega arith;
-                few = omega (arith, ed .1, w .few);
+                few = omega (arith, w .few);
                 long = put-long run k x y pairing-room ∙ w .long;
                 pairs =
                     rw (e, add-one s)
@@ -201,7 +201,7 @@ module _ (ns said : List ℕ) (b : Bool) (n : ℕ) (run₀ : List ℕ) where
               record {
                 count = w .count;
                 most = omega arith;
-                few = omega (arith, ed .1, w .few);
+                few = omega (arith, w .few);
                 long = put-long run k x y pairing-room ∙ w .long;
                 pairs = rw (e, add-one s) (ap pairsIn (put-kept run k x y pairing-room) ∙ w .pairs ∙ sym (ap (numbered ns) (a .1)));
               }
@@ -218,6 +218,7 @@ pub ruleset mine = (
   pair-put,
   pair-room,
   stated-put,
+  kept-there,
   kept-equation,
   left-equation,
   left-difference,

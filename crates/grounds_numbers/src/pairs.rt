@@ -11,7 +11,7 @@ ghost use mathlib.Core.Path.{_≡_};
 ghost use Prim.Native.Nat.{_+_, _*_, _≤_, _<_};
 ghost use lib.ListN.{length};
 ghost use Rattle.meaning.specs.Checking.{numbered};
-ghost use Rattle.runs.specs.Runs.{saidCount, statementsOf, put};
+ghost use Rattle.runs.specs.Runs.{saidCount, kindIn, statementsOf, put};
 ghost use Rattle.grounds_numbers.specs.Limits.{pairSize};
 ghost use Rattle.grounds_numbers.specs.Pairs.{pairCount, firstIn, secondIn, numbersOf, keptBy, pairsOf, Held};
 
@@ -59,6 +59,14 @@ fn kept(kind: u16, equations: bool) -> usize
     }
 }
 
+// 1 where statement s is asked for, and 0 where it is not.
+fn kept_at(said: &[u16], s: usize, equations: bool) -> usize
+    requires { ⌜ s < saidCount (now said) ⌝ }
+    ensures { λ r. ⌜ (r ≡ keptBy (kindIn (now (said .entry)) s) equations) × (r ≤ 1) ⌝ }
+{
+    kept(kind_in(said, s), equations)
+}
+
 // Pair k has the numbers of the sides of statement s.
 fn put_stated(said: &[u16], numbers: &[u16], s: usize, pairs: &mut [u16], k: usize)
     requires { ⌜ s < saidCount (now said) ⌝ }
@@ -81,7 +89,7 @@ pub fn stated(said: &[u16], numbers: &[u16], equations: bool, pairs: &mut [u16])
     let mut s: usize = 0;
     while s < n {
         put_stated(said, numbers, s, pairs, k);
-        k += kept(kind_in(said, s), equations);
+        k += kept_at(said, s, equations);
         s += 1;
     }
     k

@@ -1,6 +1,6 @@
 -- `grounds_numbers::pairs::stated` meets its contract. The invariant: the pairs of the statements passed stand at the start. The measure is how many statements are left.
 -- Assumes nothing.
-use Rattle.grounds_numbers.proofs.Pairing.{mine, Pairing, pairing-next}
+use Rattle.grounds_numbers.proofs.Pairing.{mine, Pairing}
 use Prim.Native.Nat.{_-_}
 use Rattle.grounds_numbers.proofs.pairs.stated.Statement.{statement}
 use Rattle.grounds_numbers.proofs.pairs.stated.Tie as tie
@@ -20,11 +20,8 @@ loop-holds c = search mine
 put-stated-requires : tie.Need-put-stated-requires Inv-loop μ-loop
 put-stated-requires c κs = search mine
 
-kind-in-requires : tie.Need-kind-in-requires Inv-loop μ-loop
-kind-in-requires c κs = search mine
-
-kept-requires : tie.Need-kept-requires Inv-loop μ-loop
-kept-requires c κs = search mine
+kept-at-requires : tie.Need-kept-at-requires Inv-loop μ-loop
+kept-at-requires c κs = search mine
 
 add-k : tie.Need-add-k Inv-loop μ-loop
 add-k c = search mine
@@ -36,11 +33,7 @@ loop-less : tie.Need-loop-less Inv-loop μ-loop
 loop-less c = search mine
 
 loop-again : tie.Need-loop-again Inv-loop μ-loop
-loop-again c =
-    let kind = c .before in
-    let written = kind .before .before .before in
-    let turn = written .before .before in
-    pairing-next _ _ _ _ _ _ _ _ (turn .before .loop .inv) (search mine) (turn .loop-test .taken) _ _ _ (kind .kind-in .ensures) (written .put-stated .ensures) (c .kept .ensures)
+loop-again c = search mine
 
 same-length : tie.Need-same-length Inv-loop μ-loop
 same-length c = search mine
@@ -57,8 +50,7 @@ stated-spec =
     said-count-requires
     loop-holds
     put-stated-requires
-    kind-in-requires
-    kept-requires
+    kept-at-requires
     add-k
     add-s
     loop-less
