@@ -15,6 +15,25 @@ pub const STEPS: usize = (LITERALS + 1) * EACH;
 // The words of a step.
 pub const WORDS: usize = 3;
 
+// How many values an owner, a kind or a mark has, how many the number of a row, and how many one of the four numbers.
+pub const BYTE: u64 = 256;
+
+pub const ROW: u64 = BYTE * BYTE;
+
+pub const NUMBER: u64 = ROW * ROW;
+
+// What the first word is divided by to have a field at its end: the right side's mark, the left side's row and mark, the kind and the owner. The
+// right side's row stands there.
+pub const RIGHT_MARK: u64 = ROW;
+
+pub const LEFT_ROW: u64 = RIGHT_MARK * BYTE;
+
+pub const LEFT_MARK: u64 = LEFT_ROW * ROW;
+
+pub const KIND: u64 = LEFT_MARK * BYTE;
+
+pub const OWNER: u64 = KIND * BYTE;
+
 // The owner, the kind and the sides of step i.
 pub fn sides_in(steps: &[[u64; WORDS]], i: usize) -> u64
     requires { ⌜ i < length (now steps) ⌝ }

@@ -12,23 +12,23 @@ use borrow.Author.Tests.{eq-eqb, ne-eqb, lt-ltb, le-ltb, le-leb, lt-leb, not-tru
 use lib.ListN.{length, getD, List·getD-eq-default}
 use Rattle.meaning.specs.Checking.{numberBelow, sideOf, counts, sidesBy, usedBy, citedBy}
 use Rattle.meaning.specs.GroundColumns.{ownerOf, leftRef, rightRef, stepFrom}
-use Rattle.grounds_steps.specs.Steps.{wordIn, stepsOf}
+use Rattle.grounds_steps.specs.Steps.{numberValues, wordIn, stepsOf}
 use Rattle.grounds_steps.proofs.Saying.{step-at}
 use Rattle.grounds_verdict.specs.Tests.{instancesIn, numbersAt}
 
 -- ---- steps by their words
 
 module _ (steps : List (List ℕ)) (i k y : ℕ) where
-  pub number-first : k ≡ 0 → y ≡ wordIn steps i 1 → y / 4294967296 ≡ getD (numbersAt steps i) k 0
+  pub number-first : k ≡ 0 → y ≡ wordIn steps i 1 → y / numberValues ≡ getD (numbersAt steps i) k 0
   number-first e f = rw (e, f)
 
-  pub number-second : k ≡ 1 → y ≡ wordIn steps i 1 → y % 4294967296 ≡ getD (numbersAt steps i) k 0
+  pub number-second : k ≡ 1 → y ≡ wordIn steps i 1 → y % numberValues ≡ getD (numbersAt steps i) k 0
   number-second e f = rw (e, f)
 
-  pub number-third : k ≡ 2 → y ≡ wordIn steps i 2 → y / 4294967296 ≡ getD (numbersAt steps i) k 0
+  pub number-third : k ≡ 2 → y ≡ wordIn steps i 2 → y / numberValues ≡ getD (numbersAt steps i) k 0
   number-third e f = rw (e, f)
 
-  pub number-fourth : k ≡ 3 → y ≡ wordIn steps i 2 → y % 4294967296 ≡ getD (numbersAt steps i) k 0
+  pub number-fourth : k ≡ 3 → y ≡ wordIn steps i 2 → y % numberValues ≡ getD (numbersAt steps i) k 0
   number-fourth e f = rw (e, f)
 
 pub number-past : (steps : List (List ℕ)) (i k : ℕ) → (k ≡ 0 → ⊥) → (k ≡ 1 → ⊥) → (k ≡ 2 → ⊥) → (k ≡ 3 → ⊥) → 0 ≡ getD (numbersAt steps i) k 0

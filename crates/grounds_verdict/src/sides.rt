@@ -1,6 +1,14 @@
 // The fields of a step's words, the numbers of what its references stand for, and the steps that an owner may cite.
 use casts::usize_of_u16;
 use grounds_numbers::numbers::number_after;
+use grounds_steps::BYTE;
+use grounds_steps::KIND;
+use grounds_steps::LEFT_MARK;
+use grounds_steps::LEFT_ROW;
+use grounds_steps::NUMBER;
+use grounds_steps::OWNER;
+use grounds_steps::RIGHT_MARK;
+use grounds_steps::ROW;
 use grounds_steps::WORDS;
 use grounds_steps::lower_in;
 use grounds_steps::sides_in;
@@ -18,13 +26,13 @@ ghost use Rattle.grounds_verdict.specs.Tests.{instancesIn, numbersAt, ci
 pub(crate) fn owner_of(word: u64) -> u64
     ensures { λ r. ⌜ r ≡ ownerOf word ⌝ }
 {
-    word / 72057594037927936
+    word / OWNER
 }
 
 pub(crate) fn kind_of(word: u64) -> u64
     ensures { λ r. ⌜ r ≡ kindIn word ⌝ }
 {
-    (word / 281474976710656) % 256
+    (word / KIND) % BYTE
 }
 
 // Number k, from 0, of the four of step i.
@@ -33,16 +41,16 @@ pub(crate) fn number_at(steps: &[[u64; WORDS]], i: usize, k: usize) -> u64
     ensures { λ x. ⌜ x ≡ getD (numbersAt (now (steps .entry)) i) k 0 ⌝ }
 {
     if k == 0 {
-        return upper_in(steps, i) / 4294967296;
+        return upper_in(steps, i) / NUMBER;
     }
     if k == 1 {
-        return upper_in(steps, i) % 4294967296;
+        return upper_in(steps, i) % NUMBER;
     }
     if k == 2 {
-        return lower_in(steps, i) / 4294967296;
+        return lower_in(steps, i) / NUMBER;
     }
     if k == 3 {
-        return lower_in(steps, i) % 4294967296;
+        return lower_in(steps, i) % NUMBER;
     }
     0
 }
@@ -86,16 +94,16 @@ pub(crate) fn left_side(numbers: &[u16], n: usize, word: u64) -> usize
     requires { ⌜ n ≤ length (now numbers) ⌝ }
     ensures { λ r. ⌜ r ≡ sideOf (now (numbers .entry)) n (instancesIn (now (numbers .entry)) n) (leftRef word) ⌝ }
 {
-    let row = ((word / 16777216) % 65536) as usize;
-    side(numbers, n, (word / 1099511627776) % 256, row)
+    let row = ((word / LEFT_ROW) % ROW) as usize;
+    side(numbers, n, (word / LEFT_MARK) % BYTE, row)
 }
 
 pub(crate) fn right_side(numbers: &[u16], n: usize, word: u64) -> usize
     requires { ⌜ n ≤ length (now numbers) ⌝ }
     ensures { λ r. ⌜ r ≡ sideOf (now (numbers .entry)) n (instancesIn (now (numbers .entry)) n) (rightRef word) ⌝ }
 {
-    let row = (word % 65536) as usize;
-    side(numbers, n, (word / 65536) % 256, row)
+    let row = (word % ROW) as usize;
+    side(numbers, n, (word / RIGHT_MARK) % BYTE, row)
 }
 
 // Whether a step is shared or the owner's.
