@@ -337,20 +337,19 @@ pub record Feeding (m : Memory) (piece : List ℕ) (k : ℕ) (q : Parser) (text 
   pub short : length piece < 18446744073709551615
   pub same : memory q text ss ≡ fed (take k piece) m
 
-pub feeding-step : {m : Memory} {piece : List ℕ} {k : ℕ} {q : Parser} {text : List ℕ} {ss : List (List ℕ)} {b : ℕ} {r : Parser} {text′ : List ℕ} {ss′ : List (List ℕ)} → Feeding m piece k q text ss
+pub feeding-step : {m : Memory} {piece : List ℕ} {k : ℕ} {q : Parser} {text : List ℕ} {ss : List (List ℕ)} {r : Parser} {text′ : List ℕ} {ss′ : List (List ℕ)} → Feeding m piece k q text ss
     → k < length piece
-    → b ≡ getD piece k 0
-    → Becomes (taken b (memory q text ss)) r text′ ss′
+    → Becomes (taken (getD piece k 0) (memory q text ss)) r text′ ss′
     → Feeding m piece (k + 1) r text′ ss′
-feeding-step {m} {piece} {k} {b = b} w h e s =
+feeding-step {m} {piece} {k} w h s =
     record {
       within = omega arith;
       short = w .short;
       same =
           s .same
-          ∙ ap (taken b) (w .same)
-          ∙ sym (fed-snoc (take k piece) b m)
-          ∙ rw (add-one k, take-suc piece k 0 h, e);
+          ∙ ap (taken (getD piece k 0)) (w .same)
+          ∙ sym (fed-snoc (take k piece) (getD piece k 0) m)
+          ∙ rw (add-one k, take-suc piece k 0 h);
     }
 
 pub fits-more : {m : Memory} {piece : List ℕ} {k : ℕ} {q : Parser} {text : List ℕ} {ss : List (List ℕ)} → Feeding m piece k q text ss → k < length piece → Fits w64 (k + 1)
@@ -429,6 +428,8 @@ pub ruleset ends = (
   take-text,
   take-byte,
   take-places,
+  fits-more,
+  feeding-step,
   feeding-done,
   text-long,
   steps-long,

@@ -24,6 +24,8 @@ use runs::limits::VARIABLES;
 use spaces::grow;
 use spaces::put;
 ghost use mathlib.Core.Path.{_≡_};
+ghost use Prim.Native.Nat.{_<_};
+ghost use lib.ListN.{length, getD};
 ghost use Rattle.grounds_intake.specs.Machine.{withHead, withByte, withPlaces, withConclusion, withStep, unended, fresh, memory, afterStep, afterLine, taken, fed, finished, Becomes, EndsBy};
 
 // The text: 0 at a line's start, 1 after a digit 0 there, 2 further on; 3 in the 08 line, 4 after it. How many bytes it has, and where its last line begins.
@@ -194,6 +196,14 @@ fn take(p: Parser, b: u8, text: &mut [u8], steps: &mut [[u64; WORDS]]) -> Parser
     end_line(p, steps)
 }
 
+// Takes byte k of a piece.
+fn take_at(p: Parser, piece: &[u8], k: usize, text: &mut [u8], steps: &mut [[u64; WORDS]]) -> Parser
+    requires { ⌜ k < length (now piece) ⌝ }
+    ensures { λ r. ⌜ Becomes (taken (getD (now (piece .entry)) k 0) (memory p (now (text .entry)) (now (steps .entry)))) r (now (text .exit)) (now (steps .exit)) ⌝ }
+{
+    take(p, piece[k], text, steps)
+}
+
 // Takes one piece more.
 pub fn feed(p: Parser, piece: &[u8], text: &mut [u8], steps: &mut [[u64; WORDS]]) -> Parser
     ensures feeds { λ r. ⌜ Becomes (fed (now (piece .entry)) (memory p (now (text .entry)) (now (steps .entry)))) r (now (text .exit)) (now (steps .exit)) ⌝ }
@@ -201,7 +211,7 @@ pub fn feed(p: Parser, piece: &[u8], text: &mut [u8], steps: &mut [[u64; WORDS]]
     let mut q = p;
     let mut k: usize = 0;
     while k < piece.len() {
-        q = take(q, piece[k], text, steps);
+        q = take_at(q, piece, k, text, steps);
         k += 1;
     }
     q

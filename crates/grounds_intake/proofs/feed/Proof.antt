@@ -1,10 +1,9 @@
 -- `grounds_intake::feed` meets its contract. The invariant: the first k bytes of the piece are taken. The measure is what is left of it.
 -- Assumes nothing.
-use mathlib.Core.Path.{refl}
 use Prim.Native.Nat.{_-_}
 use lib.ListN.{length}
 use Rattle.grounds_intake.specs.Machine.{memory, fed}
-use Rattle.grounds_intake.proofs.Ways.{ends, Feeding, feeding-step, fits-more}
+use Rattle.grounds_intake.proofs.Ways.{ends, Feeding}
 use Rattle.grounds_intake.proofs.feed.Statement.{statement}
 use Rattle.grounds_intake.proofs.feed.Tie as tie
 
@@ -18,25 +17,17 @@ loop-holds : tie.Need-loop-holds Inv-loop μ-loop
 unfolding fed
 loop-holds c = search ends
 
-shared-slice-read-take : tie.Need-shared-slice-read-take Inv-loop μ-loop
-shared-slice-read-take c = search ends
-
-take-requires : tie.Need-take-requires Inv-loop μ-loop
-take-requires c κs = search ends
+take-at-requires : tie.Need-take-at-requires Inv-loop μ-loop
+take-at-requires c κs = search ends
 
 add-k : tie.Need-add-k Inv-loop μ-loop
-add-k c =
-    let turn = c .before .before .before .before .before .before .before in
-    fits-more (turn .before .loop .inv) (turn .loop-test .taken)
+add-k c = search ends
 
 loop-less : tie.Need-loop-less Inv-loop μ-loop
 loop-less c = search ends
 
 loop-again : tie.Need-loop-again Inv-loop μ-loop
-loop-again c =
-    let taken = c .before .before .before in
-    let turn = taken .before .before .before .before in
-    feeding-step (turn .before .loop .inv) (turn .loop-test .taken) refl (taken .take .ensures)
+loop-again c = search ends
 
 same-length : tie.Need-same-length Inv-loop μ-loop
 same-length c = search ends
@@ -54,8 +45,7 @@ feed-spec =
     Inv-loop
     μ-loop
     loop-holds
-    shared-slice-read-take
-    take-requires
+    take-at-requires
     add-k
     loop-less
     loop-again
