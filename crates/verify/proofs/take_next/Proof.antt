@@ -1,6 +1,5 @@
 -- `verify::take_next` meets its contract: all that was read is taken in; where nothing was, nothing is.
 -- Assumes nothing.
-use Rattle.channels.proofs.Taking.{takes-read}
 use Rattle.verify.proofs.Runs.{mine}
 use Rattle.verify.proofs.take_next.Statement.{statement}
 use Rattle.verify.proofs.take_next.Tie as tie
@@ -21,9 +20,7 @@ slice-aggregate-take-in : tie.Need-slice-aggregate-take-in
 slice-aggregate-take-in c = search mine
 
 take-in-requires : tie.Need-take-in-requires
-take-in-requires c κs =
-    let got = c .before .before .before .before in
-    takes-read _ _ _ (got .before .before .take-piece .ensures) (got .got .given .1)
+take-in-requires c κs = search mine
 
 enum-told : tie.Need-enum-told
 enum-told c = search mine
