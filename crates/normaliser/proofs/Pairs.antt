@@ -19,7 +19,7 @@ use Rattle.runs.specs.Limits.{mostRows}
 use Rattle.reply_lines.specs.Pieces.{low8, Room, Put, LineRoom, run}
 use Rattle.normaliser.specs.Keyed.{keyBase}
 use Rattle.normaliser.specs.Pieces.{joinPiece, keyLine, keyPiece, keyLines}
-use Rattle.normaliser.specs.Rooms.{pairLength, joinSize, joinsSize, JoinRoom, JoinsRoom}
+use Rattle.normaliser.specs.Rooms.{pairFields, pairLength, joinSize, joinsSize, JoinRoom, JoinsRoom}
 use Rattle.reply_lines.proofs.Lines.{length-frame}
 use Rattle.reply_lines.proofs.Running.{Running, running-start, running-room, running-step, running-done, run-snoc}
 use Rattle.normaliser.proofs.Rows.{Sizing}
@@ -37,7 +37,7 @@ other-piece table i e = rw (joinPiece, ne-eqb (repAt table i) i e)
 pub join-none : (table lent : List ℕ) (i at w : ℕ) → w ≡ repAt table i → w ≡ i → Put lent at (joinPiece table i) at lent
 join-none table lent i at w e f = rw (own-piece table i (sym e ∙ f)) (record { place = omega arith; stored = refl })
 
-pub join-room : {table lent : List ℕ} {i at w : ℕ} → JoinRoom table i lent at → w ≡ repAt table i → (w ≡ i → ⊥) → LineRoom 3 at lent
+pub join-room : {table lent : List ℕ} {i at w : ℕ} → JoinRoom table i lent at → w ≡ repAt table i → (w ≡ i → ⊥) → LineRoom pairFields at lent
 join-room {table} {lent} {i} {at} r e f =
     record {
       few = omega arith;
@@ -116,7 +116,7 @@ pub key-put : {lent after : List ℕ} {at next : ℕ} (key p q a b : ℕ) → p 
 key-put key p q a b e f g h d = rw (g, h, e, f) at d
 
 module _ (keys : List ℕ) {lent after : List ℕ} {n at k to : ℕ} (f : Running (keyPiece keys) n lent at k to after) where
-  pub keys-room : Room lent at (keyLines keys) → n ≡ length keys → k < n → LineRoom 3 to after
+  pub keys-room : Room lent at (keyLines keys) → n ≡ length keys → k < n → LineRoom pairFields to after
   keys-room r e h =
       let f′ : Running (keyPiece keys) (length keys) lent at k to after = rw e at f in
       record { few = omega arith; room = omega (arith, running-room r f′ (omega arith) .fits, length-key keys k) }

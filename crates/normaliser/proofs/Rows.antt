@@ -21,7 +21,7 @@ use Rattle.runs.specs.Fit.{RowAt}
 use Rattle.runs.proofs.Saying.{row-length}
 use Rattle.reply_lines.specs.Pieces.{low8, Room, Put, LineRoom, run}
 use Rattle.normaliser.specs.Pieces.{rowPiece, rowLines}
-use Rattle.normaliser.specs.Rooms.{rowFields, lineLength, rowLength, rowsSize, RowsFit, RowRoom}
+use Rattle.normaliser.specs.Rooms.{rowFields, headFields, lineLength, rowLength, rowsSize, RowsFit, RowRoom}
 use Rattle.reply_lines.proofs.Lines.{length-frame}
 use Rattle.reply_lines.proofs.Running.{Running, running-start, running-room, running-step, running-done, run-snoc}
 
@@ -61,25 +61,25 @@ module _ (rows : List ℕ) (fit : RowsFit rows) (i : ℕ) (h : i < rowCount rows
   count-byte : low8 (countIn rows i) ≡ countIn rows i
   count-byte = mod-eq-of-lt (omega (arith, placed .few))
 
-  pub row-line : frame (take (4 + countIn rows i) (rowFields rows i)) ≡ rowPiece rows i
+  pub row-line : frame (take (headFields + countIn rows i) (rowFields rows i)) ≡ rowPiece rows i
   unfolding rowPiece
   row-line =
-      let e : 4 + countIn rows i ≡ suc (suc (suc (suc (countIn rows i)))) = omega arith in
+      let e : headFields + countIn rows i ≡ suc (suc (suc (suc (countIn rows i)))) = omega arith in
       rw (e, count-byte)
       (ap (λ (l : List ℕ). frame (1 ∷ symbolIn rows i / 256 ∷ symbolIn rows i % 256 ∷ countIn rows i ∷ l))
       (bytes (countIn rows i) refl ∙ ap (take (countIn rows i)) (sym four-args)))
 
-  pub length-row : length (rowPiece rows i) ≡ lineLength (4 + countIn rows i)
+  pub length-row : length (rowPiece rows i) ≡ lineLength (headFields + countIn rows i)
   unfolding rowPiece
   length-row = length-frame _ ∙ omega (arith, row-length rows i h (placed .few))
 
 pub row-put : {rows fields lent after : List ℕ} {i at x next : ℕ} → RowRoom rows i lent at → x ≡ countIn rows i → fields ≡ rowFields rows i
-    → Put lent at (frame (take (4 + x) fields)) next after → Put lent at (rowPiece rows i) next after
+    → Put lent at (frame (take (headFields + x) fields)) next after → Put lent at (rowPiece rows i) next after
 row-put {rows} {fields} {lent} {after} {i} {at} {x} {next} r e f d =
     subst (λ (l : List ℕ). Put lent at l next after)
-    (ap (λ (l : List ℕ). frame (take (4 + x) l)) f ∙ ap (λ (k : ℕ). frame (take (4 + k) (rowFields rows i))) e ∙ row-line rows (r .fit) i (r .inside)) d
+    (ap (λ (l : List ℕ). frame (take (headFields + x) l)) f ∙ ap (λ (k : ℕ). frame (take (headFields + k) (rowFields rows i))) e ∙ row-line rows (r .fit) i (r .inside)) d
 
-pub row-room : {rows lent : List ℕ} {i at x : ℕ} → RowRoom rows i lent at → x ≡ countIn rows i → LineRoom (4 + x) at lent
+pub row-room : {rows lent : List ℕ} {i at x : ℕ} → RowRoom rows i lent at → x ≡ countIn rows i → LineRoom (headFields + x) at lent
 row-room {rows} {lent} {i} r e =
     record {
       few = omega (arith, r .fit .placed .each i (r .inside) .few);
@@ -89,7 +89,7 @@ row-room {rows} {lent} {i} r e =
 pub row-inside : {rows lent : List ℕ} {i at : ℕ} → RowRoom rows i lent at → i < rowCount rows
 row-inside r = r .inside
 
-pub row-fits : {rows lent : List ℕ} {i at x : ℕ} → RowRoom rows i lent at → x ≡ countIn rows i → Fits w64 (4 + x)
+pub row-fits : {rows lent : List ℕ} {i at x : ℕ} → RowRoom rows i lent at → x ≡ countIn rows i → Fits w64 (headFields + x)
 row-fits {rows} {lent} {i} r e = omega (arith, r .fit .placed .each i (r .inside) .few)
 
 -- there is room for the row that comes next
@@ -124,7 +124,7 @@ module _ (rows : List ℕ) where
     pub sizing-rows-small : RowsFit rows → sum ≤ mostRows * rowLength
     sizing-rows-small fit = omega (arith, s .small, s .within, fit .few)
 
-    pub sizing-rows-step : {x : ℕ} → i < n → x ≡ lineLength (4 + countIn rows i) → x ≤ rowLength
+    pub sizing-rows-step : {x : ℕ} → i < n → x ≡ lineLength (headFields + countIn rows i) → x ≤ rowLength
         → Sizing (rowsSize rows) rowLength n (i + 1) (sum + x)
     unfolding rowsSize
     sizing-rows-step {x} h f l = record { within = omega arith; so = rw (add-one i, s .so, f); small = omega (arith, s .small) }

@@ -1,5 +1,6 @@
 -- What the functions that write pieces need, and how long the pieces are.
 --     rowFields                        the fields of a row's line
+--     headFields, pairFields           how many fields come before a row's arguments; how many an equation or a difference has
 --     rowLength, pairLength            the most bytes of a row's line; the bytes of an equation's or a difference's
 --     rowsSize, joinSize, joinsSize    the bytes of the rows before a row, of a row's equation, of the equations before a row
 --     RowsFit                          rows are few, and each has at most four arguments, which are earlier rows
@@ -28,19 +29,26 @@ rowFields rows i =
     ∷ low8 (argIn rows i 3)
     ∷ []
 
+-- the fields of a row's line before its arguments, and those of an equation's line or a difference's
+abbrev pub headFields : ℕ
+headFields = 4
+
+abbrev pub pairFields : ℕ
+pairFields = 3
+
 -- the bytes of a line of n fields
 abbrev pub lineLength : ℕ → ℕ
 lineLength n = n * 2 + 1
 
 abbrev pub rowLength : ℕ
-rowLength = lineLength (4 + argPlaces)
+rowLength = lineLength (headFields + argPlaces)
 
 abbrev pub pairLength : ℕ
-pairLength = lineLength 3
+pairLength = lineLength pairFields
 
 unfoldable pub rowsSize : List ℕ → ℕ → ℕ
 rowsSize rows zero = 0
-rowsSize rows (suc n) = rowsSize rows n + lineLength (4 + countIn rows n)
+rowsSize rows (suc n) = rowsSize rows n + lineLength (headFields + countIn rows n)
 
 unfoldable pub joinSize : List ℕ → ℕ → ℕ
 joinSize table i = elim (eqb (repAt table i) i) [ true ↦ 0 | false ↦ pairLength ]

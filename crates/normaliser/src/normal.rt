@@ -5,6 +5,7 @@ use crate::keys::second_of;
 use crate::keys::sorted_keys;
 use casts::usize_of_u16;
 use replies::Refusal;
+use reply_lines::hex::FIELDS;
 use reply_lines::hex::high;
 use reply_lines::hex::low;
 use reply_lines::hex::put_frame;
@@ -21,12 +22,17 @@ ghost use Rattle.runs.specs.Runs.{rowCount, countIn};
 ghost use Rattle.runs.specs.Fit.{RowAt};
 ghost use Rattle.reply_lines.specs.Pieces.{low8, Room, Put, LineRoom};
 ghost use Rattle.normaliser.specs.Pieces.{rowPiece, joinPiece, keyLine, rowLines, joinLines, keyLines};
-ghost use Rattle.normaliser.specs.Rooms.{lineLength, rowLength, pairLength, rowFields, rowsSize, joinSize, joinsSize, RowsFit, RowRoom, JoinRoom, JoinsRoom};
+ghost use Rattle.normaliser.specs.Rooms.{headFields, pairFields, lineLength, rowLength, pairLength, rowFields, rowsSize, joinSize, joinsSize, RowsFit, RowRoom, JoinRoom, JoinsRoom};
 ghost use Rattle.normaliser.specs.Normals.{Writable, textOf, textSize, TextRoom, SpacesFit};
 ghost use Rattle.normaliser.specs.Claims.{WritesNormal};
 
+// The fields of a row's line before its arguments, and those of an equation's line or a difference's.
+const HEAD_FIELDS: usize = 4;
+
+const PAIR_FIELDS: usize = 3;
+
 // The bytes of an equation's line, and of a difference's.
-const PAIR: usize = 7;
+const PAIR: usize = PAIR_FIELDS * 2 + 1;
 
 // A number's low byte.
 fn byte(x: usize) -> u8
@@ -37,7 +43,7 @@ fn byte(x: usize) -> u8
 
 // ---- the rows
 
-fn row_fields(rows: &[u16], i: usize) -> [u8; 8]
+fn row_fields(rows: &[u16], i: usize) -> [u8; FIELDS]
     requires { ⌜ i < rowCount (now rows) ⌝ }
     ensures { λ r. ⌜ r ≡ rowFields (now (rows .entry)) i ⌝ }
 {
@@ -59,7 +65,7 @@ fn put_row(rows: &[u16], i: usize, lent: &mut [u8], at: usize) -> usize
     ensures { λ r. ⌜ Put (now (lent .entry)) at (rowPiece (now (rows .entry)) i) r (now (lent .exit)) ⌝ }
 {
     let fields = row_fields(rows, i);
-    let n = 4 + count_in(rows, i);
+    let n = HEAD_FIELDS + count_in(rows, i);
     put_frame(fields, n, lent, at)
 }
 
@@ -81,9 +87,9 @@ fn put_rows(rows: &[u16], lent: &mut [u8], at: usize) -> usize
 fn row_length(rows: &[u16], i: usize) -> usize
     requires { ⌜ i < rowCount (now rows) ⌝ }
     requires { ⌜ RowAt (now rows) i ⌝ }
-    ensures { λ r. ⌜ (r ≡ lineLength (4 + countIn (now (rows .entry)) i)) × (r ≤ rowLength) ⌝ }
+    ensures { λ r. ⌜ (r ≡ lineLength (headFields + countIn (now (rows .entry)) i)) × (r ≤ rowLength) ⌝ }
 {
-    (4 + count_in(rows, i)) * 2 + 1
+    (HEAD_FIELDS + count_in(rows, i)) * 2 + 1
 }
 
 fn rows_length(rows: &[u16]) -> usize
@@ -110,7 +116,7 @@ fn put_join(table: &[u16], i: usize, lent: &mut [u8], at: usize) -> usize
     if usize_of_u16(p) == i {
         return at;
     }
-    put_frame([2, low(p), byte(i), 0, 0, 0, 0, 0], 3, lent, at)
+    put_frame([2, low(p), byte(i), 0, 0, 0, 0, 0], PAIR_FIELDS, lent, at)
 }
 
 fn put_joins(table: &[u16], n: usize, lent: &mut [u8], at: usize) -> usize
@@ -150,12 +156,12 @@ fn joins_length(table: &[u16], n: usize) -> usize
 // ---- the differences
 
 fn put_key(key: u32, lent: &mut [u8], at: usize) -> usize
-    requires { ⌜ LineRoom 3 at (now lent) ⌝ }
+    requires { ⌜ LineRoom pairFields at (now lent) ⌝ }
     ensures { λ r. ⌜ Put (now (lent .entry)) at (keyLine key) r (now (lent .exit)) ⌝ }
 {
     let p = low(first_of(key));
     let q = low(second_of(key));
-    put_frame([3, p, q, 0, 0, 0, 0, 0], 3, lent, at)
+    put_frame([3, p, q, 0, 0, 0, 0, 0], PAIR_FIELDS, lent, at)
 }
 
 fn put_keys(keys: &[u32], lent: &mut [u8], at: usize) -> usize

@@ -1,6 +1,6 @@
 -- What the functions claim that give a program's output.
 --     PrintsFound              the finder program's line for an input, and zeros after it
---     normalLimit              the most bytes that a normal text has
+--     normalLimit              the most bytes that a normal text has, of `normaliser`
 --     PartsOf, PrintsNormal    what the normaliser program prints: bytes of the lent space, or a line; and the space afterwards
 -- Assumes nothing.
 use mathlib.Core.List.{List, []}
@@ -10,6 +10,7 @@ use lib.ListN.{length}
 use Rattle.meaning.specs.Text.{narrow}
 use Rattle.meaning.specs.Replies.{refused, refusal, printed, inputLimit, FindPrints, Written, wrote, unwritten, Writes}
 use Rattle.reply_lines.specs.Prints.{Prints}
+pub use Rattle.normaliser.specs.Claims.{normalLimit}
 use Rattle.reply_lines.specs.declared.Line.{Line}
 use Rattle.outputs.specs.declared.Parts.{Parts}
 
@@ -17,9 +18,6 @@ pub record PrintsFound (input : List ℕ) (r : Line) : Type 0 where
   pub line : List ℕ
   pub prints : FindPrints narrow input line
   pub front : Prints line (r .bytes) (r .len)
-
-abbrev pub normalLimit : ℕ
-normalLimit = 7898
 
 abbrev pub PartsOf : Written → Parts → Type 0
 PartsOf (wrote n) r = (r .text ≡ n) × Prints [] (r .line .bytes) (r .line .len)
