@@ -35,7 +35,7 @@ use Rattle.finder.proofs.Later.{followed-one}
 use Rattle.replies.specs.declared.Outcome.{Outcome}
 use Rattle.replies.specs.declared.Outcome.the-variants as O
 use Rattle.replies.specs.declared.Reply.{Reply}
-use Rattle.normaliser.specs.Claims.{writtenBy}
+use Rattle.normaliser.specs.Claims.{writtenBy, normalLimit}
 use Rattle.normaliser.specs.declared.Written.{Written}
 use Rattle.normaliser.specs.declared.Written.the-variants as W
 use Rattle.boundary.specs.Claims.{rowsAfter, Answers, Proceeds, Settles}
@@ -105,28 +105,28 @@ proceeds-one text rows m n s t p q =
 
 -- a context without rows has every table for its representatives, the table of the rows themselves among them
 represented-few : (c : Context) → ContextFits narrow c → Fit c → (rep : ℕ → ℕ) → Representatives c rep
-    → length (contextText (normalOf rep c)) ≤ 7898
+    → length (contextText (normalOf rep c)) ≤ normalLimit
 represented-few c kept fit rep w = go (c .rows) refl
   where
-    go : (l : List Row) → c .rows ≡ l → length (contextText (normalOf rep c)) ≤ 7898
+    go : (l : List Row) → c .rows ≡ l → length (contextText (normalOf rep c)) ≤ normalLimit
     go (r ∷ l) e = normal-bytes rep c kept (let h : length (c .rows) ≡ suc (length l) = ap length e in omega (arith, w 0 (omega arith) .least 0 (omega arith) reflexive))
     go [] e =
         let h : length (c .rows) ≡ 0 = ap length e in
         let same : normalOf rep c ≡ normalOf (λ i. i) c = normal-one c rep (λ i. i) w (λ i k. absurd (omega arith)) fit in
-        subst (λ (d : Context). length (contextText d) ≤ 7898) (sym same) (normal-bytes (λ i. i) c kept refl)
+        subst (λ (d : Context). length (contextText d) ≤ normalLimit) (sym same) (normal-bytes (λ i. i) c kept refl)
 
-settled-few : (c : Context) → ContextFits narrow c → Fit c → (text : List ℕ) → Settled c (normal text) → length text ≤ 7898
+settled-few : (c : Context) → ContextFits narrow c → Fit c → (text : List ℕ) → Settled c (normal text) → length text ≤ normalLimit
 settled-few c kept fit text (settles consistent t w) =
-    subst (λ (s : List ℕ). length s ≤ 7898) (sym (w .2)) (represented-few c kept fit (w .0) (w .1))
+    subst (λ (s : List ℕ). length s ≤ normalLimit) (sym (w .2)) (represented-few c kept fit (w .0) (w .1))
 
-normalises-few : (text out : List ℕ) → Normalises narrow text (normal out) → length out ≤ 7898
+normalises-few : (text out : List ℕ) → Normalises narrow text (normal out) → length out ≤ normalLimit
 normalises-few text out = go (read narrow text) refl
   where
-    go : (x : T.Reading) → read narrow text ≡ x → NormalisesTo x (normal out) → length out ≤ 7898
+    go : (x : T.Reading) → read narrow text ≡ x → NormalisesTo x (normal out) → length out ≤ normalLimit
     go (faulty f) e w = absurd (let z : _≡_ {A = ℕ} 0 1 = cc in omega arith)
     go (taken s) e w = settled-few (s .ledger .context) (read-kept narrow text s e .contextFits) (read-formed narrow text s e .fit) out w
 
-wrote-few : (text lent after : List ℕ) (r : Normalised) (a : M.Written) (n : ℕ) → Normalises narrow text r → Leaves lent r a after → a ≡ M.wrote n → n ≤ 7898
+wrote-few : (text lent after : List ℕ) (r : Normalised) (a : M.Written) (n : ℕ) → Normalises narrow text r → Leaves lent r a after → a ≡ M.wrote n → n ≤ normalLimit
 wrote-few text lent after r a n w (fits out h) e = let k : length out ≡ n = cc in omega (arith, normalises-few text out w)
 wrote-few text lent after r a n w (short out h) e = absurd (let z : _≡_ {A = ℕ} 0 1 = cc in omega arith)
 wrote-few text lent after r a n w (stays f) e = absurd (let z : _≡_ {A = ℕ} 0 1 = cc in omega arith)

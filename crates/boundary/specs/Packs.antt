@@ -11,6 +11,7 @@ use Rattle.replies.specs.Told.{meant}
 use Rattle.replies.specs.declared.Refusal.{Refusal}
 use Rattle.replies.specs.declared.Outcome.{Outcome}
 use Rattle.replies.specs.declared.Outcome.the-variants as O
+use Rattle.normaliser.specs.Claims.{normalLimit}
 use Rattle.normaliser.specs.declared.Written.{Written}
 use Rattle.normaliser.specs.declared.Written.the-variants as W
 
@@ -28,7 +29,7 @@ handedBy O.Clear places rows = rows
 handedBy (O.Refused x) places rows = rows
 
 pub record Small (answer : Written) : Type 0 where
-  pub few : (n : ℕ) → answer ≡ W.Wrote n → n ≤ 7898
+  pub few : (n : ℕ) → answer ≡ W.Wrote n → n ≤ normalLimit
 
 abbrev pub packedAnswer : Written → ℕ
 packedAnswer (W.Wrote n) = 256 * n
