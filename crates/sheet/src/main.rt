@@ -2,18 +2,27 @@
 // a line has the text's name, the finder's reply, and the normaliser's refusal or whether it wrote
 // that normal text. The space that is lent is as long as the second file, so that a normal text
 // without its last byte (`.short`) shows refusal 10.
+use casts::usize_of_u8;
 use libc::STDOUT_FILENO;
 use normaliser::Written;
+use replies::INPUT_LIMIT;
 use replies::Outcome;
 use replies::Refusal;
+use reply_lines::LINE_SPACE;
 use reply_lines::Line;
 use reply_lines::breach_line;
 use reply_lines::none_line;
 use reply_lines::refusal_line;
 
+// One byte more than a text may have, so that one that is too long is known.
+const TEXT_SPACE: usize = INPUT_LIMIT + 1;
+
+// More bytes than any normal text has.
+const NORMAL_SPACE: usize = 8192;
+
 // The first n bytes but the last of them.
 fn put(bytes: &[u8], n: usize) {
-    if n > 32 {
+    if n > LINE_SPACE {
         return;
     }
     if n > 0 {
@@ -33,7 +42,7 @@ fn tell_finder(text: &[u8]) {
     let outcome = r.outcome;
     let places = r.places;
     match outcome {
-        Outcome::Breach(n) => show(breach_line(n as usize, places)),
+        Outcome::Breach(n) => show(breach_line(usize_of_u8(n), places)),
         Outcome::Clear => show(none_line()),
         Outcome::Refused(x) => show(refusal_line(x)),
     }
@@ -56,7 +65,7 @@ fn tell_written(text: &[u8], normal: &[u8], lent: &mut [u8]) {
 }
 
 fn tell_normaliser(text: &[u8], normal: &[u8]) {
-    let mut space = [0; 8192];
+    let mut space = [0; NORMAL_SPACE];
     let m = io::count(normal.len() as isize, &space);
     tell_written(text, normal, &mut space[..m]);
 }
@@ -73,7 +82,7 @@ fn tell_long() {
 }
 
 fn tell(text: &[u8], normal: &[u8]) {
-    if text.len() > 16384 {
+    if text.len() > INPUT_LIMIT {
         tell_long();
         return;
     }
@@ -106,10 +115,10 @@ fn one(i: usize, j: usize) {
     if first < 0 || second < 0 {
         return;
     }
-    let mut text = [0; 16385];
+    let mut text = [0; TEXT_SPACE];
     let n = io::read_full(first, &mut text);
     libc::close(first);
-    let mut normal = [0; 8192];
+    let mut normal = [0; NORMAL_SPACE];
     let m = io::read_full(second, &mut normal);
     libc::close(second);
     name(i);
