@@ -9,7 +9,7 @@ use mathlib.Core.Path.{_≡_, sym, ap, _∙_}
 use Prim.Native.Nat.{ℕ, _+_, _*_}
 use native.Mathlib.Omega.{arith}
 use borrow.Author.Needs.{needs}
-use Rattle.ledger.specs.declared.ClauseColumns.{ClauseColumns}
+use Rattle.records.specs.declared.ClauseColumns.{ClauseColumns}
 use Rattle.replies.specs.declared.Refusal.{Refusal}
 use Rattle.records.specs.declared.Row.{Row}
 use Rattle.records.specs.declared.Statements.{Statements}

@@ -1,6 +1,6 @@
 // The finder over records for programs in other languages: a reply is one number, and the rows of a breach stand in the caller's space.
 use super::pack_refusal;
-use ledger::ClauseColumns;
+use records::ClauseColumns;
 use records::Row;
 use records::Statements;
 use records::finding::Outcome;

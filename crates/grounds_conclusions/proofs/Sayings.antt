@@ -1,8 +1,7 @@
 -- What shows a literal, as the code writes it.
 --     Placing                   a loop over stated differences: the first so many have two labels
 --     Copying                   a loop over a table: the first so many places are copied
---     said-of, literal-said     what is said by a literal's kind is said for the literal
---     says-resumed              what is said from a column and a table is said from the closed classes again
+--     said-of                   what is said by a literal's kind is said for the literal
 --     placing, copying, saying  what the functions of this crate leave to show
 -- Assumes nothing.
 use mathlib.Core.Bool.{Bool, true, false, not}
@@ -17,7 +16,6 @@ use lib.Seq.{take-all, take-suc, take-suc-set}
 use borrow.Author.Needs.{needs}
 use borrow.Author.Tests.{eq-eqb, ne-eqb}
 use Rattle.meaning.specs.Context.{Row, leftAt, rightAt}
-use Rattle.meaning.specs.Rules.{Literal}
 use Rattle.meaning.specs.Values.{numberAt}
 use Rattle.meaning.specs.Columns.{literalOf}
 use Rattle.meaning.specs.Checking.{firstFalse}
@@ -25,10 +23,10 @@ use Rattle.grounds_numbers.specs.Limits.{mostNumbers}
 use Rattle.grounds_numbers.specs.Pairs.{pairCount, pairsIn}
 use Rattle.grounds_numbers.proofs.Pairing.{pairs-length}
 use Rattle.grounds_laws.specs.Limits.{classRun}
-use Rattle.grounds_laws.specs.Draft.{countIn, Wrote}
+use Rattle.grounds_laws.specs.Draft.{Wrote}
 use Rattle.grounds_laws.specs.Classes.{State, stateOf, same}
 use Rattle.grounds_laws.specs.Rounds.{oneLabel}
-use Rattle.grounds_laws.specs.Concluding.{parted, placeSame, Found, saidEqual, saidSame, saidDiffer, saidBy, said, resumed}
+use Rattle.grounds_laws.specs.Concluding.{parted, placeSame, Found, saidEqual, saidSame, saidDiffer, saidBy, said}
 use Rattle.grounds_classes.specs.Settling.{furtheredBy}
 use Rattle.grounds_conclusions.specs.Saying.{Says, differingBy, sayingBy}
 
@@ -162,17 +160,6 @@ module _ (n : ℕ) (ks : List Row) (ns : List ℕ) (rows : ℕ) (diffs : List (�
       go : (b : Bool) → eqb kind 6 ≡ b → said n ks ns rows diffs (literalOf kind p q) state ≡ saidBy n ks diffs kind (numberAt ns (rows + p)) (numberAt ns (rows + q)) state
       go true e = rw (e, literalOf, saidBy)
       go false e = rw (e, literalOf, saidBy)
-
-  pub literal-said : (kind p q : ℕ) (state : State) {after : List ℕ} {first difference x y : ℕ} → x ≡ numberAt ns (rows + p) → y ≡ numberAt ns (rows + q)
-      → Says after first difference (saidBy n ks diffs kind x y state)
-      → Says after first difference (said n ks ns rows diffs (literalOf kind p q) state)
-  literal-said kind p q state ex ey w = rw (said-of kind p q state, sym ex, sym ey) w
-
-  pub says-resumed : (l : Literal) (closed : State) (cells : List ℕ) {table after : List ℕ} {from first difference : ℕ} → from ≡ countIn (closed .cells) → table ≡ closed .table
-      → Says after first difference (said n ks ns rows diffs l (stateOf (set cells 0 from) table))
-      → Says after first difference (said n ks ns rows diffs l (resumed closed cells))
-  unfolding resumed
-  says-resumed l closed cells e f w = rw (sym e, sym f) w
 
 pub ruleset placing = (needs, placing-start, placing-next, placing-found, placing-done)
 

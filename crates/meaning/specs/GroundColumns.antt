@@ -1,10 +1,9 @@
--- Steps and conclusions in columns: a step is three words of 64 bits, a conclusion a place for each of its fields.
+-- Steps and conclusions as they are lent: a step is three words of 64 bits, a conclusion a place for each of its fields.
 --     leftRef, rightRef, ownerOf, kindIn, numbersIn   the fields in the words, high byte first: owner (1), kind (1), left (3), right (3); four numbers of 4 bytes
---     stepsFrom                                       as many steps as the shortest column has places
+--     stepFrom                                        the step that three words say
 --     conclusionsFrom                                 a place for each literal; an absent conclusion cites step 0
---     pairsFrom                                       pairs in two columns
 -- Assumes nothing.
-use mathlib.Core.List.{List, [], _∷_, _++_, map}
+use mathlib.Core.List.{List, [], _∷_, _++_}
 use Prim.Native.Nat.{ℕ, zero, suc, _/_, _%_}
 use lib.ListN.{getD}
 use Rattle.meaning.specs.Grounds.{Ref, Step, Conclusion}
@@ -27,16 +26,6 @@ numbersIn y z = y / 4294967296 ∷ y % 4294967296 ∷ z / 4294967296 ∷ z % 429
 unfoldable pub stepFrom : ℕ → ℕ → ℕ → Step
 stepFrom x y z = record { owner = ownerOf x; kind = kindIn x; left = leftRef x; right = rightRef x; numbers = numbersIn y z }
 
-unfoldable pub stepsFrom : List ℕ → List ℕ → List ℕ → List Step
-stepsFrom [] ys zs = []
-stepsFrom (x ∷ xs) [] zs = []
-stepsFrom (x ∷ xs) (y ∷ ys) [] = []
-stepsFrom (x ∷ xs) (y ∷ ys) (z ∷ zs) = stepFrom x y z ∷ stepsFrom xs ys zs
-
--- steps by their first words, where only their owners and sides are read
-unfoldable pub sidesOf : List ℕ → List Step
-sidesOf words = map (λ x. stepFrom x 0 0) words
-
 unfoldable pub conclusionFrom : List ℕ → List ℕ → ℕ → Conclusion
 conclusionFrom firsts differences i = record { literal = suc i; first = getD firsts i 0; difference = getD differences i 0 }
 
@@ -44,8 +33,3 @@ conclusionFrom firsts differences i = record { literal = suc i; first = getD fir
 unfoldable pub conclusionsFrom : List ℕ → List ℕ → ℕ → List Conclusion
 conclusionsFrom firsts differences zero = []
 conclusionsFrom firsts differences (suc n) = conclusionsFrom firsts differences n ++ (conclusionFrom firsts differences n ∷ [])
-
--- the first n
-unfoldable pub pairsFrom : List ℕ → List ℕ → ℕ → List (ℕ × ℕ)
-pairsFrom lefts rights zero = []
-pairsFrom lefts rights (suc n) = pairsFrom lefts rights n ++ ((getD lefts n 0, getD rights n 0) ∷ [])

@@ -23,7 +23,7 @@ use Rattle.meaning.proofs.Answered.{judged-one}
 use Rattle.meaning.proofs.Promised.{promise-one}
 use Rattle.runs.specs.Limits.{mostRows, mostStatements}
 use Rattle.runs.specs.Runs as R
-use Rattle.ledger.specs.declared.ClauseColumns.{ClauseColumns}
+use Rattle.records.specs.declared.ClauseColumns.{ClauseColumns}
 use Rattle.classes.specs.Claims.{Closes}
 use Rattle.classes.specs.declared.Answer.{Answer}
 use Rattle.classes.specs.declared.Answer.the-variants as A

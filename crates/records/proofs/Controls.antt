@@ -11,7 +11,7 @@
 -- Assumes nothing.
 use mathlib.Core.List.{List, [], _∷_, map}
 use mathlib.Core.Path.{_≡_, refl, ap}
-use Prim.Native.Nat.{ℕ, zero, suc, _≤_, _<_}
+use Prim.Native.Nat.{ℕ, zero, suc, _*_, _≤_, _<_}
 use native.Mathlib.Omega.{arith}
 use lib.ListN.{length, getD, take, replicate, length-replicate}
 use Rattle.meaning.specs.Context as C
@@ -24,10 +24,10 @@ use Rattle.meaning.specs.Replies as M
 use Rattle.meaning.specs.Replies.{breach, none, refused, refusal, placesOf, empty}
 use Rattle.meaning.specs.Closing.{count}
 use Rattle.meaning.proofs.Closes.{length-count, repAt-count}
+use Rattle.runs.specs.Limits.{mostPatterns, mostLiterals, argPlaces}
 use Rattle.runs.specs.Runs as R
 use Rattle.runs.specs.Runs.{each}
-use Rattle.ledger.specs.declared.ClauseColumns.{ClauseColumns}
-use Rattle.ledger.specs.Columns.{noClause}
+use Rattle.records.specs.declared.ClauseColumns.{ClauseColumns}
 use Rattle.replies.specs.declared.Refusal.{Refusal}
 use Rattle.replies.specs.Told.{toldOf}
 use Rattle.classes.specs.declared.Answer.{Answer}
@@ -159,6 +159,21 @@ twins-fit =
     ordered zero h = tt
     ordered (suc zero) h = tt
     ordered (suc (suc i)) h = absurd (omega arith)
+
+-- a rule with nothing in it
+unfoldable pub noClause : ClauseColumns
+noClause =
+    record {
+      patterns = 0;
+      kinds = replicate mostPatterns 0;
+      heads = replicate mostPatterns 0;
+      counts = replicate mostPatterns 0;
+      args = replicate (mostPatterns * argPlaces) 0;
+      literals = 0;
+      signs = replicate mostLiterals 0;
+      lefts = replicate mostLiterals 0;
+      rights = replicate mostLiterals 0;
+    }
 
 rule-fit : FitRule noClause
 unfolding noClause told joined R.patternsOf R.literalsOf each

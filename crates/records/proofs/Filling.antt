@@ -20,7 +20,7 @@ use lib.Seq.{take-at, take-all, drop-append-add, drop-drop}
 use Rattle.runs.specs.Limits.{mostRows, mostStatements, mostPatterns, mostLiterals, rowSize, saidSize, patternSize, literalSize, argPlaces}
 use Rattle.runs.specs.Runs.{put}
 use Rattle.runs.proofs.Zeros.{drop-zeros}
-use Rattle.ledger.specs.declared.ClauseColumns.{ClauseColumns}
+use Rattle.records.specs.declared.ClauseColumns.{ClauseColumns}
 use Rattle.classes.specs.Claims.{Closes}
 use Rattle.classes.specs.declared.Classes.{Classes}
 use Rattle.records.specs.declared.Row.{Row}

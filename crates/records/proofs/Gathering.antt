@@ -19,7 +19,7 @@ use Rattle.runs.specs.Limits.{mostRows, mostStatements, rowSize}
 use Rattle.runs.specs.Runs as R
 use Rattle.runs.specs.Runs.{each, rowCount, saidCount}
 use Rattle.runs.proofs.Saying.{each-length, each-at, length-rows, length-statements, rows-at, statements-at}
-use Rattle.ledger.specs.declared.ClauseColumns.{ClauseColumns}
+use Rattle.records.specs.declared.ClauseColumns.{ClauseColumns}
 use Rattle.classes.specs.Claims.{Closes}
 use Rattle.classes.specs.declared.Answer.{Answer}
 use Rattle.classes.specs.declared.Answer.the-variants as A

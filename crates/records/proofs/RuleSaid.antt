@@ -19,7 +19,7 @@ use Rattle.runs.specs.Limits.{mostPatterns, mostLiterals, patternSize, literalS
 use Rattle.runs.specs.Runs.{each, patternCount, literalCount, patternKindIn, patternCountIn, patternIn, patternsOf, literalIn, literalsOf}
 use Rattle.runs.proofs.Saying.{each-length, each-at}
 use Rattle.runs.proofs.Growing.{patterns-more, literals-more}
-use Rattle.ledger.specs.declared.ClauseColumns.{ClauseColumns}
+use Rattle.records.specs.declared.ClauseColumns.{ClauseColumns}
 use Rattle.records.specs.Layouts.{told, joined, placesAt, patternPiece, literalPiece, patternsLaid, literalsLaid, ruleOf}
 use Rattle.records.specs.Claims.{FitRule}
 use Rattle.records.proofs.Joining.{joined-length, joined-at, told-all}

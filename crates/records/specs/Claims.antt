@@ -19,7 +19,7 @@ use Rattle.meaning.specs.Replies.{placesOf, Judged}
 use Rattle.runs.specs.Fit.{FitContext, FitClause}
 use Rattle.runs.specs.Limits.{mostRows, mostStatements, mostVariables, unusedPlace}
 use Rattle.runs.specs.Runs as R
-use Rattle.ledger.specs.declared.ClauseColumns.{ClauseColumns}
+use Rattle.records.specs.declared.ClauseColumns.{ClauseColumns}
 use Rattle.replies.specs.declared.Refusal.{Refusal}
 use Rattle.replies.specs.Told.{toldOf}
 use Rattle.classes.specs.Claims.{Own, Closes}

@@ -14,7 +14,7 @@ use lib.ListN.{length, getD, take, drop, replicate}
 use Rattle.meaning.specs.Rules.{Clause}
 use Rattle.runs.specs.Limits.{mostRows, mostStatements, mostPatterns, mostLiterals, argPlaces}
 use Rattle.runs.specs.Runs.{clauseOf}
-use Rattle.ledger.specs.declared.ClauseColumns.{ClauseColumns}
+use Rattle.records.specs.declared.ClauseColumns.{ClauseColumns}
 use Rattle.records.specs.declared.Row.{Row}
 use Rattle.records.specs.declared.Statements.{Statements}
 use Rattle.records.specs.declared.Table.{Table}

@@ -1,8 +1,8 @@
 // Records, statements and a rule laid out in runs. A run has room for one piece more than the most, so that too many are told as too many.
+use crate::ClauseColumns;
 use crate::Statements;
 use crate::Table;
 use casts::u16_of_u8;
-use ledger::ClauseColumns;
 use runs::limits::LITERAL;
 use runs::limits::LITERALS;
 use runs::limits::PATTERN;

@@ -11,7 +11,6 @@ use laying::many;
 use laying::patterns_run;
 use laying::rows_run;
 use laying::said_run;
-use ledger::ClauseColumns;
 use runs::limits::LITERAL;
 use runs::limits::LITERALS;
 use runs::limits::PATTERN;
@@ -45,6 +44,23 @@ pub struct Statements {
     pub lefts: [u16; STATEMENTS],
     pub rights: [u16; STATEMENTS],
     pub count: usize,
+}
+
+// The places for arguments of all pattern rows.
+const SUBS: usize = PATTERNS * PLACES;
+
+// A rule in columns: pattern rows with their kind, 4 or 5, a head, a count and four places for arguments; literals with their kind, 6 or 7; how many of each.
+#[repr(C)]
+pub struct ClauseColumns {
+    pub patterns: usize,
+    pub kinds: [u8; PATTERNS],
+    pub heads: [u16; PATTERNS],
+    pub counts: [u8; PATTERNS],
+    pub args: [u16; SUBS],
+    pub literals: usize,
+    pub signs: [u8; LITERALS],
+    pub lefts: [u16; LITERALS],
+    pub rights: [u16; LITERALS],
 }
 
 // Records by value, unused places blank; how many.

@@ -24,6 +24,7 @@ use Rattle.runs.specs.Limits.{mostPatterns}
 use Rattle.runs.specs.Runs.{patternCount, literalCount, patternsOf, literalsOf}
 use Rattle.runs.specs.Fit.{Every, NamedAt, PatternAt, FitClause}
 use Rattle.runs.proofs.Ruled.{fit-patterns, fit-literals}
+use Rattle.runs.proofs.Zeros.{drop-zeros}
 use Rattle.runs.proofs.Saying.{length-patterns}
 use Rattle.search_plan.specs.declared.Plan.{Plan}
 use Rattle.search_plan.specs.Asked.{never}
@@ -47,12 +48,6 @@ zeros-at n p = go (ltb p n) refl
     go : (b : Bool) → ltb p n ≡ b → getD {A = ℕ} (replicate n 0) p 0 ≡ 0
     go true q = getD-replicate n p 0 0 (ltb-true p n q)
     go false q = let l : length {A = ℕ} (replicate n 0) ≤ p = omega (arith, length-replicate {A = ℕ} n 0, ltb-false p n q) in List·getD-eq-default (replicate n 0) 0 l
-
-drop-zeros : (n m : ℕ) → drop n (replicate {A = ℕ} m 0) ≡ replicate (m - n) 0
-drop-zeros n m =
-    ext-getD 0 (drop n (replicate m 0)) (replicate (m - n) 0)
-    (omega (arith, length-drop n (replicate {A = ℕ} m 0), length-replicate {A = ℕ} m 0, length-replicate {A = ℕ} (m - n) 0))
-    (λ i h. getD-drop n (replicate m 0) i 0 ∙ zeros-at m (n + i) ∙ sym (zeros-at (m - n) i))
 
 -- numbers before zeros
 pub padded : (xs t : List ℕ) (n m : ℕ) → t ≡ xs → length xs ≡ n → t ++ drop n (replicate m 0) ≡ pad m xs

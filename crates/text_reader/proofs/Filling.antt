@@ -6,14 +6,15 @@
 -- Assumes nothing.
 use mathlib.Core.List.{List, [], _∷_, _++_}
 use mathlib.Core.Path.{_≡_, sym, ap, _∙_}
-use Prim.Native.Nat.{ℕ, zero, suc, _+_, _-_, _*_, _≤_}
-use native.Mathlib.Nat.{suc-mul, zero-mul, zero-sub, sub-zero, suc-sub-suc}
+use Prim.Native.Nat.{ℕ, _+_, _-_, _*_, _≤_}
+use native.Mathlib.Nat.{suc-mul, zero-mul}
 use native.Mathlib.Numerals.{add-one}
 use native.Mathlib.Omega.{arith}
 use lib.ListN.{length, drop, replicate, length-append, length-replicate, length-drop}
 use lib.Seq.{take-at, drop-append-add, length-take-le}
 use Rattle.meaning.specs.Columns.{pad}
 use Rattle.runs.specs.Runs.{put}
+use Rattle.runs.proofs.Zeros.{drop-zeros}
 use Rattle.text_runs.specs.Numbers.{numbersOf}
 use Rattle.text_runs.specs.Reads.{Holds}
 use Rattle.text_runs.proofs.Saying.{numbers-snoc}
@@ -24,11 +25,6 @@ pub put-length : (size : ℕ) (run : List ℕ) (n : ℕ) (piece run′ : List �
 put-length size run n piece run′ e h i =
     ap length i
     ∙ simp (length-append, length-drop) (let t = length-take-le (n * size) run (omega arith) in omega arith)
-
-drop-zeros : (k n : ℕ) → drop {A = ℕ} k (replicate n 0) ≡ replicate (n - k) 0
-drop-zeros zero n = rw sub-zero
-drop-zeros (suc k) zero = rw zero-sub
-drop-zeros (suc k) (suc n) = rw suc-sub-suc (drop-zeros k n)
 
 module _ {A : Type 0} {numbers : A → List ℕ} (size : ℕ) where
   pub filled-start : (run : List ℕ) → run ≡ replicate (length run) 0 → Filled numbers size 0 [] run

@@ -33,9 +33,9 @@ use denote.Triple.Table.{entered, cited}
 use denote.Triple.Walked.{says, Stays, stay-none-slice, stay-none, walkOf, goes-none-slice, goes-none, Walks, ends-at, walked, walk-meets}
 use denote.Exit.{yes}
 use denote.Triple.Clauses.{ensured, lasts}
-use Rattle.ledger.specs.declared.ClauseColumns.{ClauseColumns}
-use Rattle.ledger.proofs.ClauseColumns as K
-use Rattle.ledger.proofs.ClauseColumns.Laws as K′
+use Rattle.records.specs.declared.ClauseColumns.{ClauseColumns}
+use Rattle.records.proofs.ClauseColumns as K
+use Rattle.records.proofs.ClauseColumns.Laws as K′
 use Rattle.records.specs.Layouts.{listOf}
 use Rattle.records.specs.declared.Row.{Row}
 use Rattle.records.specs.declared.Statements.{Statements}

@@ -39,14 +39,14 @@ use denote.Triple.Spec.{Meets, tripleOf}
 use denote.Triple.Table.{entered, cited}
 use denote.Triple.Walked.{says, Stays, stay-none-ref, stay-none-slice, gave-ref, walkOf, AllGo, goes-none-ref, goes-none-slice, goes-gave-ref, Walks, ends-at, walked, walk-meets}
 use denote.Exit.{yes}
-use Rattle.ledger.specs.declared.ClauseColumns.{ClauseColumns}
+use Rattle.records.specs.declared.ClauseColumns.{ClauseColumns}
 use Rattle.records.specs.declared.Row.{Row}
 use Rattle.records.specs.declared.Statements.{Statements}
 use Rattle.records.specs.declared.finding.Reply.{Reply}
 use Rattle.records.specs.Claims.{FindsRows}
 use Rattle.boundary.specs.Rows.{Told}
-use Rattle.ledger.proofs.ClauseColumns as rule
-use Rattle.ledger.proofs.ClauseColumns.Laws as rule′
+use Rattle.records.proofs.ClauseColumns as rule
+use Rattle.records.proofs.ClauseColumns.Laws as rule′
 use Rattle.records.proofs.Row as row
 use Rattle.records.proofs.Statements as stmts
 use Rattle.records.proofs.Statements.Laws as stmts′
