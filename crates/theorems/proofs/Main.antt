@@ -14,7 +14,7 @@ use Rattle.replies.specs.declared.Outcome.the-variants.{Breach}
 use Rattle.replies.specs.declared.Reply.{Reply}
 use Rattle.normaliser.specs.declared.Written.{Written}
 use Rattle.reply_lines.specs.declared.Line.{Line}
-use Rattle.outputs.specs.Claims.{PrintsFound, PrintsNormal}
+use Rattle.outputs.specs.Claims.{normalLimit, PrintsFound, PrintsNormal}
 use Rattle.outputs.specs.declared.Parts.{Parts}
 use Rattle.outputs.proofs.Outputs.{output-prints}
 use Rattle.hunting.specs.Laid.{contextIn, ruleIn}
@@ -79,7 +79,7 @@ pub find-prints : (input : List ℕ) (l : Line) → PrintsFound input l → Find
 find-prints = found-shown
 
 -- What `normalise` prints, with space for any normal text.
-pub normalise-prints : (input space after : List ℕ) (r : Parts) → 7898 ≤ length space → PrintsNormal input space r after
+pub normalise-prints : (input space after : List ℕ) (r : Parts) → normalLimit ≤ length space → PrintsNormal input space r after
     → NormalisePrints narrow input (take (r .text) after ++ shownIn (r .line))
 normalise-prints = output-prints
 
