@@ -3,7 +3,7 @@
 --     Seeking     the search: the rows of the chain that were passed do not agree
 --     Linked      the chains of the first rows, under one choice of keys
 --     Passing     the pass: the first rows are done
---     mine        what `mate`, `join_row` and `join_rows` leave to show
+--     mine        what `mate`, `join_row`, `visit` and `join_rows` leave to show
 -- Assumes nothing.
 use mathlib.Core.Bool.{Bool, true, false}
 use mathlib.Core.List.{List, map}

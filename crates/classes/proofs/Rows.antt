@@ -1,5 +1,5 @@
 -- Rows read from a run: two rows compared, and the key of a row's chain.
---     mine                  what `same_args`, `agree`, `mixed` and `chain` leave to show
+--     mine                  what the functions of `mates` up to `chain` leave to show
 -- Assumes nothing.
 use mathlib.Core.Bool.{Bool, true, false, not, _&&_}
 use mathlib.Core.List.{List, [], _∷_, _++_}
@@ -11,7 +11,7 @@ use lib.Dec.{eqb}
 use lib.ListN.{length, getD, take, drop, length-map, drop-of-length-le}
 use lib.Seq.{drop-cons, take-suc, take-length}
 use borrow.Author.Needs.{needs}
-use borrow.Author.Tests.{eqb-true, eqb-false, eq-eqb, ne-eqb}
+use borrow.Author.Tests.{eqb-true, eqb-false, eq-eqb, ne-eqb, not-true, not-false}
 use Rattle.meaning.specs.Equality.{repAt}
 use Rattle.meaning.specs.ByTable.{sameList}
 use Rattle.meaning.specs.Closing.{agree}
@@ -22,16 +22,6 @@ use Rattle.runs.specs.Limits.{rowSize}
 use Rattle.runs.specs.Runs.{argsFrom, rowCount, symbolIn, countIn, argIn, rowsOf}
 use Rattle.runs.proofs.Saying.{rows-at, arg-at, args-length}
 use Rattle.classes.specs.Steps.{chains, Laid, Seated, argReps, sameArg, sameArgs, sameShape, mix, keyOf}
-
--- ---- a flag that is asked the other way round
-
-holds : (r : Bool) → not r ≡ false → r ≡ true
-holds true e = refl
-holds false e = sym e
-
-fails : (r : Bool) → not r ≡ true → r ≡ false
-fails true e = sym e
-fails false e = refl
 
 -- ---- two lists compared from their start: the first k elements are the same
 pub record Comparing (l m : List ℕ) (k : ℕ) : Type 0 where
@@ -102,11 +92,11 @@ module _ {run t : List ℕ} {i j count k : ℕ} (g : Agreeing run t i j count k)
     pub agreeing-next : not r ≡ false → Agreeing run t i j count (k + 1)
     unfolding sameArg
     agreeing-next e =
-        record { first = g .first; second = g .second; lists = comparing-next (g .lists) in-left (at-left ∙ eqb-true _ _ (sym er ∙ holds r e) ∙ sym at-right) }
+        record { first = g .first; second = g .second; lists = comparing-next (g .lists) in-left (at-left ∙ eqb-true _ _ (sym er ∙ not-false r e) ∙ sym at-right) }
 
     pub agreeing-differs : not r ≡ true → false ≡ sameArgs run t i j count
     unfolding sameArg sameArgs
-    agreeing-differs e = comparing-differs (g .lists) in-left (λ q. eqb-false _ _ (sym er ∙ fails r e) (sym at-left ∙ q ∙ at-right))
+    agreeing-differs e = comparing-differs (g .lists) in-left (λ q. eqb-false _ _ (sym er ∙ not-true r e) (sym at-left ∙ q ∙ at-right))
 
   pub agreeing-done : count ≤ k → true ≡ sameArgs run t i j count
   unfolding sameArgs
@@ -144,7 +134,7 @@ module _ (run t : List ℕ) (i j : ℕ) (laid : Laid run) (hi : i < rowCount run
         long k h = length-reps run t k (countIn run k) (record { inside = h; four = laid .few k h })
 
         shapes : (eqb (symbolIn run i) (symbolIn run j) && eqb (countIn run i) (countIn run j)) ≡ false
-        shapes = sym es ∙ fails s d
+        shapes = sym es ∙ not-true s d
 
         go : (x : Bool) → eqb (symbolIn run i) (symbolIn run j) ≡ x → (y : Bool) → sameList l m ≡ y → false ≡ agree (rowsOf run) t i j
         go false e y f = sym (agree-in ∙ rw e refl)
@@ -157,8 +147,8 @@ module _ (run t : List ℕ) (i j : ℕ) (laid : Laid run) (hi : i < rowCount run
     pub agree-args : (c : ℕ) (r : Bool) → not s ≡ false → c ≡ countIn run i → r ≡ sameArgs run t i j c → r ≡ agree (rowsOf run) t i j
     unfolding sameShape sameArgs
     agree-args c r e ec er =
-        er ∙ ap₂ (λ (x y : ℕ). sameList (argReps run t i x) (argReps run t j y)) ec (ec ∙ eqb-true _ _ (and-true-right a b (sym es ∙ holds s e)))
-        ∙ sym (agree-in ∙ rw (and-true-left a b (sym es ∙ holds s e)))
+        er ∙ ap₂ (λ (x y : ℕ). sameList (argReps run t i x) (argReps run t j y)) ec (ec ∙ eqb-true _ _ (and-true-right a b (sym es ∙ not-false s e)))
+        ∙ sym (agree-in ∙ rw (and-true-left a b (sym es ∙ not-false s e)))
       where
         a : Bool
         a = eqb (symbolIn run i) (symbolIn run j)
@@ -175,7 +165,7 @@ pub seated-other : (run : List ℕ) (i j c : ℕ) (s : Bool) → Laid run → i 
     → c ≡ countIn run i → Seated run j c
 unfolding sameShape
 seated-other run i j c s laid hi hj es e ec =
-    let f : countIn run i ≡ countIn run j = eqb-true _ _ (and-true-right (eqb (symbolIn run i) (symbolIn run j)) _ (sym es ∙ holds s e)) in
+    let f : countIn run i ≡ countIn run j = eqb-true _ _ (and-true-right (eqb (symbolIn run i) (symbolIn run j)) _ (sym es ∙ not-false s e)) in
     record { inside = hj; four = omega (arith, laid .few i hi) }
 
 -- arguments with one representative
