@@ -21,7 +21,7 @@ use Rattle.meaning.specs.Writing.{lowerFirst}
 use Rattle.meaning.proofs.Taken.{differences-append}
 use Rattle.runs.specs.Runs.{each, saidCount, kindIn, leftIn, rightIn, statementIn}
 use Rattle.runs.specs.Fit.{NamedAt}
-use Rattle.normaliser.specs.Sorting.{SortedIn}
+use Rattle.sorting.specs.Sorting.{SortedIn}
 use Rattle.normaliser.specs.Keyed.{keyBase, pairKey, keysTo, statedKey, noteOf, Keyable, Noted, Gathered, KeysIn}
 
 module _ (said table : List ℕ) where

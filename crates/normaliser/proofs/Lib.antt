@@ -1,7 +1,4 @@
 -- The root of the laws.
-pub mod Merging
-pub mod Turns
-pub mod Halves
 pub mod Gathering
 pub mod Rows
 pub mod Pairs

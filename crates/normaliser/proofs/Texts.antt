@@ -29,10 +29,10 @@ use Rattle.runs.proofs.Formed.{fit-rows, fit-said}
 use Rattle.reply_lines.specs.Pieces.{run}
 use Rattle.normaliser.specs.Pieces.{rowPiece, joinPiece, keyPiece, rowLines, joinLines, keyLines}
 use Rattle.normaliser.specs.Rooms.{RowsFit}
-use Rattle.normaliser.specs.Sorting.{Rising, Sorts}
+use Rattle.sorting.specs.Sorting.{Rising, Sorts}
 use Rattle.normaliser.specs.Keyed.{keyBase, pairKey, keysTo, KeysIn}
 use Rattle.normaliser.specs.Normals.{normalText, textOf, textSize, Writable}
-use Rattle.normaliser.proofs.Merging.{in-append}
+use Rattle.sorting.proofs.Merging.{in-append}
 use Rattle.reply_lines.proofs.Running.{run-snoc}
 use Rattle.normaliser.proofs.Rows.{length-rows}
 use Rattle.normaliser.proofs.Pairs.{length-joins, length-keys}

@@ -16,7 +16,7 @@ use Rattle.meaning.specs.Equality.{repAt}
 use Rattle.meaning.specs.Writing.{lowerFirst}
 use Rattle.runs.specs.Runs.{each, saidCount, leftIn, rightIn, statementIn}
 use Rattle.runs.specs.Fit.{Every, NamedAt}
-use Rattle.normaliser.specs.Sorting.{Sorts}
+use Rattle.sorting.specs.Sorting.{Sorts}
 
 abbrev pub keyBase : ℕ
 keyBase = 65536

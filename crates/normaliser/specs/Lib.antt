@@ -1,7 +1,6 @@
 -- The root of the definitions.
 pub mod Pieces
 pub mod Rooms
-pub mod Sorting
 pub mod Keyed
 pub mod Normals
 pub mod Claims
