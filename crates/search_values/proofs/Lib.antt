@@ -1,0 +1,4 @@
+pub mod Indexing
+pub mod Places
+pub mod Comparing
+pub mod Holding

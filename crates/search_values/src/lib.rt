@@ -1,0 +1,35 @@
+// The values of pattern rows under chosen rows, over runs. The rows of a context are sorted by symbol once for a text, so that a row is found
+// by its symbol and the classes of its arguments without a walk along all rows.
+use keys::row_key;
+use sorting::sort;
+ghost use mathlib.Core.Path.{_≡_};
+ghost use Prim.Native.Nat.{_≤_};
+ghost use lib.ListN.{length};
+ghost use Rattle.runs.specs.Runs.{rowCount};
+ghost use Rattle.search_values.specs.Index.{keyBase, rowKeys, IndexFit, Indexed};
+
+mod keys;
+mod lookup;
+
+// The keys of all rows, row by row.
+fn fill(rows: &[u16], keys: &mut [u32])
+    requires { ⌜ rowCount (now rows) ≤ keyBase ⌝ }
+    requires { ⌜ length (now keys) ≡ rowCount (now rows) ⌝ }
+    ensures { λ _. ⌜ now (keys .exit) ≡ rowKeys (now (rows .entry)) ⌝ }
+{
+    let n = keys.len();
+    let mut i = 0;
+    while i < n {
+        keys[i] = row_key(rows, i);
+        i += 1;
+    }
+}
+
+// The rows of a context sorted by symbol and then by row, a key for each.
+pub fn index(rows: &[u16], keys: &mut [u32], spare: &mut [u32])
+    requires { ⌜ IndexFit (now rows) (length (now keys)) (length (now spare)) ⌝ }
+    ensures { λ _. ⌜ Indexed (now (rows .entry)) (now (keys .exit)) ⌝ }
+{
+    fill(rows, keys);
+    sort(keys, spare);
+}
