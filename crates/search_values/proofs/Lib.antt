@@ -2,3 +2,4 @@ pub mod Indexing
 pub mod Places
 pub mod Comparing
 pub mod Holding
+pub mod Meeting

@@ -10,6 +10,7 @@ ghost use Rattle.search_values.specs.Index.{keyBase, rowKeys, IndexFit, 
 
 mod keys;
 mod lookup;
+mod terms;
 
 // The keys of all rows, row by row.
 fn fill(rows: &[u16], keys: &mut [u32])

@@ -1,0 +1,64 @@
+-- Pattern rows read in an order, over runs: what the reading asks, and what it gives.
+--     Listed, ReadFit, Asked      rows of an order that have been read; a rule with values for its rows; all that a reading asks
+--     SymbolFit, VariableFit      a well-formed row of either kind
+--     stateOf                     the values so far and the rows read so far
+--     lookOf, termOf, readOf      the value of a symbol over values, of one row, and the values after some rows of the order
+-- Assumes nothing.
+use mathlib.Core.Bool.{true, false}
+use mathlib.Core.List.{List}
+use mathlib.Core.Path.{_≡_}
+use Prim.Native.Nat.{ℕ, _+_, _*_, _≤_, _<_}
+use lib.Dec.{ltb}
+use lib.ListN.{length, getD, take}
+use lib.Seq.{slice}
+use Rattle.meaning.specs.Context.{Row}
+use Rattle.meaning.specs.Rules.{Pattern}
+use Rattle.meaning.specs.Values.{patternAt, held, met, Numbering, numberOf, number}
+use Rattle.runs.specs.Limits.{mostPatterns, mostVariables, patternSize}
+use Rattle.runs.specs.Runs.{patternCount, patternKindIn, headIn, patternCountIn}
+use Rattle.runs.specs.Fit.{PlacedAt}
+use Rattle.search_plan.specs.Steps.{RuleFit}
+use Rattle.search_values.specs.Lookup.{LedgerFit}
+
+-- the first places of an order name pattern rows
+pub record Listed (order : List ℕ) (read patterns : ℕ) : Type 0 where
+  pub long : read ≤ length order
+  pub rows : (j : ℕ) → j < read → getD order j 0 < patterns
+
+pub record ReadFit (patterns order : List ℕ) (read places : ℕ) : Type 0 where
+  pub rule : RuleFit patterns
+  pub listed : Listed order read (patternCount patterns)
+  pub valued : patternCount patterns ≤ places
+
+pub record Asked (rows table keys patterns order : List ℕ) (read places : ℕ) : Type 0 where
+  pub ledger : LedgerFit rows table keys
+  pub reading : ReadFit patterns order read places
+
+pub record SymbolFit (patterns : List ℕ) (row : ℕ) : Type 0 where
+  pub few : row < mostPatterns
+  pub inside : row < patternCount patterns
+  pub symbol : patternKindIn patterns row ≡ 4 → ⊥
+  pub placed : PlacedAt patterns (row * patternSize + 3) (patternCountIn patterns row) row
+
+pub record VariableFit (patterns : List ℕ) (row : ℕ) : Type 0 where
+  pub inside : row < patternCount patterns
+  pub low : headIn patterns row < mostVariables
+
+abbrev pub stateOf : List ℕ → List ℕ → ℕ → Numbering
+stateOf values order read = record { numbers = values; done = take read order }
+
+-- the value of a symbol over some values: that of a context row, else that of a row read, else one of its own
+abbrev pub lookOf : List Row → (ℕ → ℕ) → List Pattern → ℕ → List ℕ → List ℕ → List ℕ → ℕ → ℕ
+lookOf rows rep ps f ns values done row = held rep f ns (met ps f ns values (65536 + row) done) 0 rows
+
+module _ (rows : List Row) (rep : ℕ → ℕ) (ps : List Pattern) (order chosen values : List ℕ) where
+  -- rows before the fresh one come from the list
+  unfoldable pub termOf : ℕ → ℕ → ℕ → ℕ
+  termOf read fresh row =
+      elim (ltb row fresh) [
+        | true ↦ getD values row 0
+        | false ↦ numberOf rows rep 65536 ps chosen (stateOf values order read) (65536 + row) (patternAt ps row)
+      ]
+
+  unfoldable pub readOf : ℕ → ℕ → List ℕ
+  readOf from to = number rows rep 65536 ps chosen (stateOf values order from) (slice from to order) .numbers
