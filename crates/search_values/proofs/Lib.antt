@@ -3,3 +3,5 @@ pub mod Places
 pub mod Comparing
 pub mod Holding
 pub mod Meeting
+pub mod Walking
+pub mod Reading

@@ -1,21 +1,23 @@
 -- Pattern rows read in an order, over runs: what the reading asks, and what it gives.
 --     Listed, ReadFit, Asked      rows of an order that have been read; a rule with values for its rows; all that a reading asks
 --     SymbolFit, VariableFit      a well-formed row of either kind
+--     ArgOf                       an argument of a row
+--     TermFit, WalkFit, Walked    a row that is read or is the next; some of its arguments; their values
 --     stateOf                     the values so far and the rows read so far
 --     lookOf, termOf, readOf      the value of a symbol over values, of one row, and the values after some rows of the order
 -- Assumes nothing.
 use mathlib.Core.Bool.{true, false}
-use mathlib.Core.List.{List}
+use mathlib.Core.List.{List, _++_}
 use mathlib.Core.Path.{_≡_}
 use Prim.Native.Nat.{ℕ, _+_, _*_, _≤_, _<_}
 use lib.Dec.{ltb}
-use lib.ListN.{length, getD, take}
+use lib.ListN.{length, getD, take, drop}
 use lib.Seq.{slice}
 use Rattle.meaning.specs.Context.{Row}
 use Rattle.meaning.specs.Rules.{Pattern}
-use Rattle.meaning.specs.Values.{patternAt, held, met, Numbering, numberOf, number}
+use Rattle.meaning.specs.Values.{patternAt, argsOf, held, met, Numbering, numberOf, number}
 use Rattle.runs.specs.Limits.{mostPatterns, mostVariables, patternSize}
-use Rattle.runs.specs.Runs.{patternCount, patternKindIn, headIn, patternCountIn}
+use Rattle.runs.specs.Runs.{patternCount, patternKindIn, headIn, patternCountIn, patternArgIn, patternArgsIn}
 use Rattle.runs.specs.Fit.{PlacedAt}
 use Rattle.search_plan.specs.Steps.{RuleFit}
 use Rattle.search_values.specs.Lookup.{LedgerFit}
@@ -43,6 +45,27 @@ pub record SymbolFit (patterns : List ℕ) (row : ℕ) : Type 0 where
 pub record VariableFit (patterns : List ℕ) (row : ℕ) : Type 0 where
   pub inside : row < patternCount patterns
   pub low : headIn patterns row < mostVariables
+
+-- argument k of a row, which is an earlier row
+pub record ArgOf (patterns : List ℕ) (row k a : ℕ) : Type 0 where
+  pub there : a ≡ patternArgIn patterns row k
+  pub earlier : a < row
+
+-- a row that is read, or is the next
+pub record TermFit (patterns : List ℕ) (fresh row : ℕ) : Type 0 where
+  pub next : fresh < patternCount patterns
+  pub known : row ≤ fresh
+
+-- a symbol row, and at most as many of its arguments as it counts
+pub record WalkFit (patterns : List ℕ) (fresh row k : ℕ) : Type 0 where
+  pub next : fresh < patternCount patterns
+  pub known : row ≤ fresh
+  pub symbol : SymbolFit patterns row
+  pub within : k ≤ patternCountIn patterns row
+
+-- the first k numbers are those that were given, and the values of the arguments from argument k on stand behind them
+pub record Walked (patterns values : List ℕ) (row k : ℕ) (done r : List ℕ) : Type 0 where
+  pub args : take (patternCountIn patterns row) r ≡ take k done ++ argsOf values (drop k (patternArgsIn patterns row))
 
 abbrev pub stateOf : List ℕ → List ℕ → ℕ → Numbering
 stateOf values order read = record { numbers = values; done = take read order }

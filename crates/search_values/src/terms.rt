@@ -11,6 +11,7 @@ use runs::pattern_arg_in;
 use runs::pattern_count_in;
 use runs::pattern_kind_in;
 ghost use mathlib.Core.Bool.{_&&_};
+ghost use mathlib.Core.List.{_++_, _∷_, []};
 ghost use mathlib.Core.Path.{_≡_};
 ghost use Prim.Native.Nat.{_+_, _≤_, _<_};
 ghost use lib.Dec.{eqb};
@@ -19,9 +20,9 @@ ghost use Rattle.meaning.specs.ByTable.{sameList};
 ghost use Rattle.meaning.specs.Equality.{repAt};
 ghost use Rattle.meaning.specs.Values.{numberAt, argsOf, isOver, met as metBy};
 ghost use Rattle.runs.specs.Limits.{mostPatterns, argPlaces};
-ghost use Rattle.runs.specs.Runs.{rowsOf, headIn, patternCountIn, patternArgIn, patternArgsIn, patternIn, patternsOf};
+ghost use Rattle.runs.specs.Runs.{rowsOf, patternCount, headIn, patternCountIn, patternArgIn, patternArgsIn, patternIn, patternsOf};
 ghost use Rattle.search_plan.specs.Steps.{RowFit as PatternFit, ArgsFit};
-ghost use Rattle.search_values.specs.Reading.{ReadFit, SymbolFit, VariableFit, Asked, lookOf};
+ghost use Rattle.search_values.specs.Reading.{ReadFit, SymbolFit, VariableFit, ArgOf, TermFit, WalkFit, Walked, Asked, lookOf, termOf};
 
 // The value of a term outside the table that row is the first to have.
 fn own(row: usize) -> u32
@@ -155,4 +156,145 @@ fn look(
         return v;
     }
     met(patterns, order, read, values, f, wanted, n, own(row))
+}
+
+// The value of a row. Rows before the fresh one have been read, and their values come from the list.
+fn term(
+    rows: &[u16],
+    table: &[u16],
+    keys: &[u32],
+    patterns: &[u16],
+    order: &[u8],
+    read: usize,
+    values: &[u32],
+    chosen: [u16; VARIABLES],
+    fresh: usize,
+    row: usize,
+) -> u32
+    requires { ⌜ Asked (now rows) (now table) (now keys) (now patterns) (now order) read (length (now values)) ⌝ }
+    requires { ⌜ TermFit (now patterns) fresh row ⌝ }
+    ensures { λ r. ⌜ r ≡ termOf (rowsOf (now (rows .entry))) (repAt (now (table .entry))) (patternsOf (now (patterns .entry))) (now (order .entry)) chosen (now (values .entry)) read fresh row ⌝ }
+{
+    if row < fresh {
+        return values[row];
+    }
+    if pattern_kind_in(patterns, row) == 4 {
+        return given(patterns, row, chosen);
+    }
+    let w = walk(
+        rows,
+        table,
+        keys,
+        patterns,
+        order,
+        read,
+        values,
+        chosen,
+        fresh,
+        row,
+        0,
+        [0; PLACES],
+    );
+    look(rows, table, keys, patterns, order, read, values, row, w)
+}
+
+// Argument k of a symbol row: an earlier row.
+fn arg_of(patterns: &[u16], row: usize, k: usize) -> usize
+    requires { ⌜ SymbolFit (now patterns) row ⌝ }
+    requires { ⌜ k < patternCountIn (now patterns) row ⌝ }
+    ensures { λ r. ⌜ ArgOf (now (patterns .entry)) row k r ⌝ }
+{
+    pattern_arg_in(patterns, row, k)
+}
+
+// The first k values and one more.
+fn with_more(done: [u32; PLACES], k: usize, v: u32) -> [u32; PLACES]
+    requires { ⌜ k < argPlaces ⌝ }
+    ensures { λ r. ⌜ take (k + 1) r ≡ take k done ++ (v ∷ []) ⌝ }
+{
+    let mut w = done;
+    w[k] = v;
+    w
+}
+
+// The values of the arguments of a row, from argument k on.
+fn walk(
+    rows: &[u16],
+    table: &[u16],
+    keys: &[u32],
+    patterns: &[u16],
+    order: &[u8],
+    read: usize,
+    values: &[u32],
+    chosen: [u16; VARIABLES],
+    fresh: usize,
+    row: usize,
+    k: usize,
+    done: [u32; PLACES],
+) -> [u32; PLACES]
+    requires { ⌜ Asked (now rows) (now table) (now keys) (now patterns) (now order) read (length (now values)) ⌝ }
+    requires { ⌜ WalkFit (now patterns) fresh row k ⌝ }
+    ensures { λ r. ⌜ Walked (now (patterns .entry)) (now (values .entry)) row k done r ⌝ }
+{
+    if pattern_count_in(patterns, row) <= k {
+        return done;
+    }
+    let a = arg_of(patterns, row, k);
+    let v = term(
+        rows,
+        table,
+        keys,
+        patterns,
+        order,
+        read,
+        values,
+        chosen,
+        fresh,
+        a,
+    );
+    let w = with_more(done, k, v);
+    walk(
+        rows,
+        table,
+        keys,
+        patterns,
+        order,
+        read,
+        values,
+        chosen,
+        fresh,
+        row,
+        k + 1,
+        w,
+    )
+}
+
+// The value of a row that has not been read.
+pub(crate) fn value_at(
+    rows: &[u16],
+    table: &[u16],
+    keys: &[u32],
+    patterns: &[u16],
+    order: &[u8],
+    read: usize,
+    values: &[u32],
+    chosen: [u16; VARIABLES],
+    row: usize,
+) -> u32
+    requires { ⌜ Asked (now rows) (now table) (now keys) (now patterns) (now order) read (length (now values)) ⌝ }
+    requires { ⌜ row < patternCount (now patterns) ⌝ }
+    ensures { λ r. ⌜ r ≡ termOf (rowsOf (now (rows .entry))) (repAt (now (table .entry))) (patternsOf (now (patterns .entry))) (now (order .entry)) chosen (now (values .entry)) read row row ⌝ }
+{
+    term(
+        rows,
+        table,
+        keys,
+        patterns,
+        order,
+        read,
+        values,
+        chosen,
+        row,
+        row,
+    )
 }
