@@ -5,3 +5,4 @@ pub mod Holding
 pub mod Meeting
 pub mod Walking
 pub mod Reading
+pub mod Planned
