@@ -4,7 +4,7 @@
 --     mine                         what the term function and the argument walk leave to show
 -- Assumes nothing.
 use mathlib.Core.List.{List, [], _∷_, _++_, append-nil}
-use mathlib.Core.Path.{_≡_, sym, ap, _∙_}
+use mathlib.Core.Path.{_≡_, sym, ap, ap₂, _∙_}
 use Prim.Native.Nat.{ℕ, suc, _+_, _*_, _≤_, _<_}
 use native.Mathlib.Omega.{arith}
 use native.Mathlib.Numerals.{add-one}
@@ -36,8 +36,8 @@ module _ (patterns : List ℕ) (row : ℕ) (r : RuleFit patterns) where
   pub term-look : row < patternCount patterns → (patternKindIn patterns row ≡ 4 → ⊥) → SymbolFit patterns row
   term-look h n = record { few = omega (arith, r .few); inside = h; symbol = n; placed = r .placed .each row h .symbol n }
 
-  pub term-walk : (fresh : ℕ) → TermFit patterns fresh row → (patternKindIn patterns row ≡ 4 → ⊥) → WalkFit patterns fresh row 0
-  term-walk fresh t n = record { next = t .next; known = t .known; symbol = term-look (term-inside patterns fresh row t) n; within = omega arith }
+  pub term-walk : row < patternCount patterns → (patternKindIn patterns row ≡ 4 → ⊥) → WalkFit patterns row 0
+  term-walk h n = record { symbol = term-look h n; within = omega arith }
 
 -- ---- one row
 
@@ -46,9 +46,8 @@ module _ (rows : List Row) (rep : ℕ → ℕ) (patterns order chosen values : L
   unfolding termOf
   term-list h = rw (lt-ltb row fresh h, termOf)
 
-  pub term-read : (x at k : ℕ) → row < fresh → x ≡ termOf rows rep (patternsOf patterns) order chosen values read fresh row → row ≡ patternArgIn patterns at k
-      → x ≡ getD values (patternArgIn patterns at k) 0
-  term-read x at k h e p = e ∙ sym (term-list h) ∙ ap (λ (i : ℕ). getD values i 0) p
+  pub term-read : (x : ℕ) → row < fresh → x ≡ termOf rows rep (patternsOf patterns) order chosen values read fresh row → x ≡ getD values row 0
+  term-read x h e = e ∙ sym (term-list h)
 
   module _ (t : TermFit patterns fresh row) (h : fresh ≤ row) (k : ℕ) (e : k ≡ patternKindIn patterns row) where
     inside : row < patternCount patterns
@@ -70,50 +69,50 @@ module _ (rows : List Row) (rep : ℕ → ℕ) (patterns order chosen values : L
 
 -- ---- the arguments
 
-module _ (patterns : List ℕ) (fresh row k : ℕ) (f : WalkFit patterns fresh row k) where
+module _ (patterns : List ℕ) (row : ℕ) (f : SymbolFit patterns row) where
+  long : length (patternArgsIn patterns row) ≡ patternCountIn patterns row
+  long = args-length patterns (row * patternSize + 3) (patternCountIn patterns row) (omega (arith, f .inside)) (f .placed .few)
+
+  pub walk-place : (k : ℕ) → k < patternCountIn patterns row → k < argPlaces
+  walk-place k h = omega (arith, f .placed .few)
+
+  pub walk-arg : (k a : ℕ) → k < patternCountIn patterns row → a ≡ patternArgIn patterns row k → ArgOf patterns row k a
+  walk-arg k a h p =
+      record {
+        first =
+            drop-cons (patternArgsIn patterns row) k 0 (omega (arith, long))
+            ∙ ap₂ _∷_ (arg-at patterns (row * patternSize + 3) (patternCountIn patterns row) k h (f .placed .few) ∙ sym p)
+            (ap (λ (i : ℕ). drop i (patternArgsIn patterns row)) (sym (add-one k)));
+        earlier = omega (arith, f .placed .earlier .each k h);
+      }
+
+module _ (patterns : List ℕ) (row k : ℕ) (f : WalkFit patterns row k) where
   pub walk-inside : row < patternCount patterns
   walk-inside = f .symbol .inside
-
-  long : length (patternArgsIn patterns row) ≡ patternCountIn patterns row
-  long = args-length patterns (row * patternSize + 3) (patternCountIn patterns row) (omega (arith, f .symbol .inside)) (f .symbol .placed .few)
-
-  pub walk-end : (values done : List ℕ) (n : ℕ) → n ≡ patternCountIn patterns row → n ≤ k → Walked patterns values row k done done
-  walk-end values done n e g =
-      let z : patternCountIn patterns row ≡ k = omega (arith, f .within) in
-      let l : length (patternArgsIn patterns row) ≤ k = omega (arith, long) in
-      record { args = rw (drop-of-length-le (patternArgsIn patterns row) l) (ap (λ (x : ℕ). take x done) z ∙ sym (append-nil (take k done))) }
 
   pub walk-symbol : SymbolFit patterns row
   walk-symbol = f .symbol
 
-  pub walk-next : k < patternCountIn patterns row → WalkFit patterns fresh row (k + 1)
-  walk-next h = record { next = f .next; known = f .known; symbol = f .symbol; within = omega arith }
+  pub walk-next : k < patternCountIn patterns row → WalkFit patterns row (k + 1)
+  walk-next h = record { symbol = f .symbol; within = omega arith }
 
-module _ (patterns : List ℕ) (row k : ℕ) (f : SymbolFit patterns row) (h : k < patternCountIn patterns row) where
-  pub walk-place : k < argPlaces
-  walk-place = omega (arith, f .placed .few)
+  pub walk-end : (values done : List ℕ) (n : ℕ) → n ≡ patternCountIn patterns row → n ≤ k → Walked patterns values row k done done
+  walk-end values done n e g =
+      let z : patternCountIn patterns row ≡ k = omega (arith, f .within) in
+      let l : length (patternArgsIn patterns row) ≤ k = omega (arith, long patterns row (f .symbol)) in
+      record { args = rw (drop-of-length-le (patternArgsIn patterns row) l) (ap (λ (x : ℕ). take x done) z ∙ sym (append-nil (take k done))) }
 
-  pub walk-arg : (a : ℕ) → a ≡ patternArgIn patterns row k → ArgOf patterns row k a
-  walk-arg a p = record { there = p; earlier = omega (arith, f .placed .earlier .each k h) }
-
-  pub walk-more : (values done w r : List ℕ) (v : ℕ) → v ≡ getD values (patternArgIn patterns row k) 0 → take (k + 1) w ≡ take k done ++ (v ∷ [])
-      → Walked patterns values row (k + 1) w r
-      → Walked patterns values row k done r
-  walk-more values done w r v q m y =
-      let l : length (patternArgsIn patterns row) ≡ patternCountIn patterns row =
-      args-length patterns (row * patternSize + 3) (patternCountIn patterns row) (omega (arith, f .inside)) (f .placed .few)
-      in
-      record {
-        args =
-            y .args ∙ rw (
-              m,
-              add-one k,
-              drop-cons (patternArgsIn patterns row) k 0 (omega (arith, l)),
-              arg-at patterns (row * patternSize + 3) (patternCountIn patterns row) k h (f .placed .few),
-              ← q,
-            )
-            (append-snoc (take k done) v (argsOf values (drop (suc k) (patternArgsIn patterns row))));
-      }
+pub walk-more : (patterns values : List ℕ) (row k a v : ℕ) (done w r : List ℕ) → ArgOf patterns row k a → v ≡ getD values a 0
+    → take (k + 1) w ≡ take k done ++ (v ∷ [])
+    → Walked patterns values row (k + 1) w r
+    → Walked patterns values row k done r
+walk-more patterns values row k a v done w r f q m y =
+    record {
+      args =
+          y .args ∙ ap (_++ argsOf values (drop (k + 1) (patternArgsIn patterns row))) m
+          ∙ append-snoc (take k done) v (argsOf values (drop (k + 1) (patternArgsIn patterns row)))
+          ∙ rw (f .first) (ap (λ (x : ℕ). take k done ++ (x ∷ argsOf values (drop (k + 1) (patternArgsIn patterns row)))) q);
+    }
 
 pub one-more : (done : List ℕ) (k v : ℕ) → k < argPlaces → length done ≡ argPlaces → take (k + 1) (set done k v) ≡ take k done ++ (v ∷ [])
 one-more done k v h four = rw (add-one k) (take-suc-set done k v (omega arith))

@@ -7,7 +7,7 @@
 --     lookOf, termOf, readOf      the value of a symbol over values, of one row, and the values after some rows of the order
 -- Assumes nothing.
 use mathlib.Core.Bool.{true, false}
-use mathlib.Core.List.{List, _++_}
+use mathlib.Core.List.{List, _∷_, _++_}
 use mathlib.Core.Path.{_≡_}
 use Prim.Native.Nat.{ℕ, _+_, _*_, _≤_, _<_}
 use lib.Dec.{ltb}
@@ -17,7 +17,7 @@ use Rattle.meaning.specs.Context.{Row}
 use Rattle.meaning.specs.Rules.{Pattern}
 use Rattle.meaning.specs.Values.{patternAt, argsOf, held, met, Numbering, numberOf, number}
 use Rattle.runs.specs.Limits.{mostPatterns, mostVariables, patternSize}
-use Rattle.runs.specs.Runs.{patternCount, patternKindIn, headIn, patternCountIn, patternArgIn, patternArgsIn}
+use Rattle.runs.specs.Runs.{patternCount, patternKindIn, headIn, patternCountIn, patternArgsIn}
 use Rattle.runs.specs.Fit.{PlacedAt}
 use Rattle.search_plan.specs.Steps.{RuleFit}
 use Rattle.search_values.specs.Lookup.{LedgerFit}
@@ -46,9 +46,9 @@ pub record VariableFit (patterns : List ℕ) (row : ℕ) : Type 0 where
   pub inside : row < patternCount patterns
   pub low : headIn patterns row < mostVariables
 
--- argument k of a row, which is an earlier row
+-- the first argument of a row from argument k on, which is an earlier row
 pub record ArgOf (patterns : List ℕ) (row k a : ℕ) : Type 0 where
-  pub there : a ≡ patternArgIn patterns row k
+  pub first : drop k (patternArgsIn patterns row) ≡ a ∷ drop (k + 1) (patternArgsIn patterns row)
   pub earlier : a < row
 
 -- a row that is read, or is the next
@@ -57,9 +57,7 @@ pub record TermFit (patterns : List ℕ) (fresh row : ℕ) : Type 0 where
   pub known : row ≤ fresh
 
 -- a symbol row, and at most as many of its arguments as it counts
-pub record WalkFit (patterns : List ℕ) (fresh row k : ℕ) : Type 0 where
-  pub next : fresh < patternCount patterns
-  pub known : row ≤ fresh
+pub record WalkFit (patterns : List ℕ) (row k : ℕ) : Type 0 where
   pub symbol : SymbolFit patterns row
   pub within : k ≤ patternCountIn patterns row
 

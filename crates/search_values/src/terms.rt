@@ -190,7 +190,6 @@ fn term(
         read,
         values,
         chosen,
-        fresh,
         row,
         0,
         [0; PLACES],
@@ -198,7 +197,7 @@ fn term(
     look(rows, table, keys, patterns, order, read, values, row, w)
 }
 
-// Argument k of a symbol row: an earlier row.
+// Argument k of a symbol row, the first of those from k on: an earlier row.
 fn arg_of(patterns: &[u16], row: usize, k: usize) -> usize
     requires { ⌜ SymbolFit (now patterns) row ⌝ }
     requires { ⌜ k < patternCountIn (now patterns) row ⌝ }
@@ -217,7 +216,7 @@ fn with_more(done: [u32; PLACES], k: usize, v: u32) -> [u32; PLACES]
     w
 }
 
-// The values of the arguments of a row, from argument k on.
+// The values of the arguments of a row, from argument k on: the row is the fresh one.
 fn walk(
     rows: &[u16],
     table: &[u16],
@@ -227,13 +226,12 @@ fn walk(
     read: usize,
     values: &[u32],
     chosen: [u16; VARIABLES],
-    fresh: usize,
     row: usize,
     k: usize,
     done: [u32; PLACES],
 ) -> [u32; PLACES]
     requires { ⌜ Asked (now rows) (now table) (now keys) (now patterns) (now order) read (length (now values)) ⌝ }
-    requires { ⌜ WalkFit (now patterns) fresh row k ⌝ }
+    requires { ⌜ WalkFit (now patterns) row k ⌝ }
     ensures { λ r. ⌜ Walked (now (patterns .entry)) (now (values .entry)) row k done r ⌝ }
 {
     if pattern_count_in(patterns, row) <= k {
@@ -249,7 +247,7 @@ fn walk(
         read,
         values,
         chosen,
-        fresh,
+        row,
         a,
     );
     let w = with_more(done, k, v);
@@ -262,7 +260,6 @@ fn walk(
         read,
         values,
         chosen,
-        fresh,
         row,
         k + 1,
         w,

@@ -3,7 +3,6 @@
 -- less.
 -- Assumes nothing.
 use native.Mathlib.Omega.{arith}
-use Rattle.search_values.specs.Reading.{WalkFit}
 use borrow.Author.Needs.{needs}
 use Rattle.search_values.proofs.Walking.{term-given, term-look, term-walk, term-read, walk-place, walk-next, walk-more, mine}
 use Prim.Native.Nat.{ℕ, _+_, _*_, _-_, _<_}
@@ -28,7 +27,7 @@ abbrev μ-term : Measures 6 term-kinds.ps ℕ
 μ-term κs a = a .1 .1 .1 .1 .1 .1 .1 .1 .1 .0 * 8 + 5
 
 abbrev μ-walk : Measures 6 walk-kinds.ps ℕ
-μ-walk κs a = a .1 .1 .1 .1 .1 .1 .1 .1 .1 .0 * 8 + (4 - a .1 .1 .1 .1 .1 .1 .1 .1 .1 .1 .0)
+μ-walk κs a = a .1 .1 .1 .1 .1 .1 .1 .1 .0 * 8 + (4 - a .1 .1 .1 .1 .1 .1 .1 .1 .1 .0)
 
 abbrev term-at : ℕ → In 6 term-kinds.ps
 term-at t = and 6 term-kinds.ps (is 6 term-kinds.ps μ-term t) term.Pre
@@ -88,7 +87,7 @@ term-returns-2 : (t : ℕ) → term-lts.Need-returns-2 (term-claims t) (term-at 
 term-returns-2 t c = search mine
 
 term-walk-requires : (t : ℕ) → term-lts.Need-walk-requires (term-claims t) (term-at t) term.Post
-term-walk-requires t c κs = (omega arith, (search needs, term-walk _ _ (search needs) _ (search needs) (λ e. omega arith)))
+term-walk-requires t c κs = (omega arith, (search needs, term-walk _ _ (search needs) (omega arith) (λ e. omega arith)))
 
 term-look-requires : (t : ℕ) → term-lts.Need-look-requires (term-claims t) (term-at t) term.Post
 term-look-requires t c κs = (search needs, term-look _ _ (search needs) (omega arith) (λ e. omega arith))
@@ -118,9 +117,7 @@ walk-walk-requires : (t : ℕ) → walk-lts.Need-walk-requires (walk-claims t) (
 walk-walk-requires t c κs = (search (needs, walk-place), (search needs, search (needs, walk-next)))
 
 walk-returns-2 : (t : ℕ) → walk-lts.Need-returns-2 (walk-claims t) (walk-at t) walk.Post
-walk-returns-2 t c =
-    let f : WalkFit _ _ _ _ = c .before .before .before .before .before .before .before .before .before .before .before .before .pre .1 .1 in
-    walk-more _ _ _ (f .symbol) (omega arith) _ _ _ _ _ (term-read _ _ _ _ _ _ _ _ _ _ _ _ (omega (arith, f .known)) (c .before .before .term .ensures) (search needs)) (c .before .with-more .ensures) (c .walk .ensures)
+walk-returns-2 t c = search (needs, term-read, walk-more)
 
 pub +term+walk-spec : {M : Type 1} → statement M
 +term+walk-spec = close μ-term μ-walk (λ t. term-lts.spec (term-claims t)
