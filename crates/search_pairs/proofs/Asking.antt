@@ -70,7 +70,7 @@ module _ (rows table sets : List ℕ) (x y : ℕ) (labels work : List ℕ) (blan
           so = λ said ready ex ey.
               sym
               (widerBy-stated (contextOf rows said) (ready .fit) (repAt table) (ready .classes) x y (inner (h .0)) (inner (h .1))
-              (both said ex ey ∙ sym (ready .apart x y (h .0) (h .1)) ∙ ap (λ (v : ℕ). apartAt v sets x y) (sym en) ∙ sym e ∙ q));
+              (both said ex ey ∙ sym (ready .prepared .apart x y (h .0) (h .1)) ∙ ap (λ (v : ℕ). apartAt v sets x y) (sym en) ∙ sym e ∙ q));
         }
 
     pub settled-shut : (b r : Bool) → b ≡ apartAt n sets x y → b ≡ false → Open n sets x y r → not r ≡ true → Settled rows table sets x y labels work false
@@ -86,11 +86,11 @@ module _ (rows table sets : List ℕ) (x y : ℕ) (labels work : List ℕ) (blan
         go said ready ex ey (inl w) =
             same-wider (contextOf rows said) (ready .fit) (ready .free) (repAt table) (ready .classes) x y (inner (h .0)) (inner (h .1)) (ap (repAt table) w)
         go said ready ex ey (inr (inl w)) =
-            beside-wider (contextOf rows said) (ready .fit) (ready .free) (repAt table) (ready .classes) x y (inner (h .0)) (inner (h .1)) (besideAt (rowCount rows) sets) (ready .beside)
+            beside-wider (contextOf rows said) (ready .fit) (ready .free) (repAt table) (ready .classes) x y (inner (h .0)) (inner (h .1)) (besideAt (rowCount rows) sets) (ready .prepared .beside)
             (ap₂ (besideAt (rowCount rows) sets) ex ey ∙ w)
-            (both said ex ey ∙ sym (ready .apart x y (h .0) (h .1)) ∙ ap (λ (v : ℕ). apartAt v sets x y) (sym en) ∙ sym e ∙ q)
+            (both said ex ey ∙ sym (ready .prepared .apart x y (h .0) (h .1)) ∙ ap (λ (v : ℕ). apartAt v sets x y) (sym en) ∙ sym e ∙ q)
         go said ready ex ey (inr (inr w)) =
-            live-wider (contextOf rows said) (ready .fit) (ready .free) (repAt table) (ready .classes) x y (inner (h .0)) (inner (h .1)) (liveAt (rowCount rows) sets) (ready .live)
+            live-wider (contextOf rows said) (ready .fit) (ready .free) (repAt table) (ready .classes) x y (inner (h .0)) (inner (h .1)) (liveAt (rowCount rows) sets) (ready .prepared .live)
             (ap (liveAt (rowCount rows) sets) ex ∙ w .0)
             (ap (liveAt (rowCount rows) sets) ey ∙ w .1)
 

@@ -3,7 +3,10 @@ pub mod Back
 pub mod Beside
 pub mod Joining
 pub mod Live
+pub mod Living
 pub mod Members
+pub mod Preparing
+pub mod Putting
 pub mod Rows
 pub mod Seeking
 pub mod Turning

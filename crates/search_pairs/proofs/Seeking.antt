@@ -186,7 +186,7 @@ module _ (rows : List ℕ) (r : ℕ) (laid : Laid rows) (hr : r < rowCount rows)
               o .none l (repAt table (argOf (rowsOf rows) t 0)) t (inside .each _ (argument-inside t h (w .0)))
               (sym (w .1) ∙ ap (labelBy table labels) (sym (first-argument many)) ∙ sym ez)
               h
-              (ready .over .each t 0 (omega (arith, length-rows rows)) (w .0))
+              (ready .prepared .over .each t 0 (omega (arith, length-rows rows)) (w .0))
               q
 
 pub ruleset mine = (

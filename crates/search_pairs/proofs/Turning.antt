@@ -119,7 +119,7 @@ module _ (rows said table sets : List ℕ) (ready : Ready rows said table sets) 
             outer (ready .classes (argOf (rowsOf rows) r k) (omega (arith, below-at r (rowAt (rowsOf rows) r .args) (ready .fit .ordered r (inner h)) k l, length-rows rows)) .row)
 
         mark : (r k : ℕ) → r < rowCount rows → k < argCount (rowsOf rows) r → labelBy table labels (argOf (rowsOf rows) r k) ≡ join .picked → markedAt work′ r ≡ true
-        mark r k h l e = join .reached (repAt table (argOf (rowsOf rows) r k)) r (label-inside r k h l) h e (ready .over .each r k (inner h) l)
+        mark r k h l e = join .reached (repAt table (argOf (rowsOf rows) r k)) r (label-inside r k h l) h e (ready .prepared .over .each r k (inner h) l)
 
         reached : (r s k : ℕ) → r < length (rowsOf rows) → s < length (rowsOf rows) → rowAt (rowsOf rows) r .symbol ≡ rowAt (rowsOf rows) s .symbol
             → argCount (rowsOf rows) r ≡ argCount (rowsOf rows) s → k < argCount (rowsOf rows) r
@@ -134,10 +134,10 @@ module _ (rows said table sets : List ℕ) (ready : Ready rows said table sets) 
             → apartBy (repAt table) (differences (contextOf rows said)) a b ≡ false
         parts a b ha hb ea eb =
             ⊎-elim
-            (λ w. sym (ready .apart a b (outer ha) (outer hb)) ∙ clear .clear refl a b (outer ha) (outer hb) (ea ∙ sym (w .0)) (eb ∙ sym (w .1)))
+            (λ w. sym (ready .prepared .apart a b (outer ha) (outer hb)) ∙ clear .clear refl a b (outer ha) (outer hb) (ea ∙ sym (w .0)) (eb ∙ sym (w .1)))
             (λ w.
             apartBy-symmetric (repAt table) (differences (contextOf rows said)) a b
-            ∙ sym (ready .apart b a (outer hb) (outer ha))
+            ∙ sym (ready .prepared .apart b a (outer hb) (outer ha))
             ∙ clear .clear refl b a (outer hb) (outer ha) (eb ∙ sym (w .0)) (ea ∙ sym (w .1)))
             (join .two)
 
@@ -145,7 +145,7 @@ module _ (rows said table sets : List ℕ) (ready : Ready rows said table sets) 
     met-clash k =
         let w : (a : ℕ) × (b : ℕ) × (a < rowCount rows) × (b < rowCount rows) × (repAt labels a ≡ x) × (repAt labels b ≡ y) × (apartAt (rowCount rows) sets a b ≡ true) = k .found refl in
         way-clash (contextOf rows said) (ready .fit) (ready .free) (repAt table) (ready .classes) i j (inner hi) (inner hj) (repAt labels) (markedAt work) way
-        p q (inner hp) (inner hq) same x y (inl (sym ex, sym ey)) (w .0) (w .1) (w .4) (w .5) (sym (ready .apart (w .0) (w .1) (w .2) (w .3)) ∙ w .6)
+        p q (inner hp) (inner hq) same x y (inl (sym ex, sym ey)) (w .0) (w .1) (w .4) (w .5) (sym (ready .prepared .apart (w .0) (w .1) (w .2) (w .3)) ∙ w .6)
 
 -- ---- the number of rows, as it was read
 

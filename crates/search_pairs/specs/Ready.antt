@@ -3,6 +3,7 @@
 --     Over, Beside, Live     the rows over a class, the classes beside it, and those from which a side of a difference is reached; more may be said
 --     wordsFor, mostWords    how many words a set of rows has, and how many it may have
 --     overAt .. liveAt       the sets, one behind the other in a run
+--     Prepared               a context's sets by a table
 --     Ready                  a table that is closed for a consistent context, with its sets
 -- Assumes nothing.
 use mathlib.Core.Bool.{Bool, true}
@@ -59,12 +60,15 @@ apartAt n sets a b = has sets ((n + n + a) * wordsFor n) b
 abbrev pub liveAt : ℕ → List ℕ → ℕ → Bool
 liveAt n sets a = has sets ((n + n + n) * wordsFor n) a
 
--- which classes are kept apart is told exactly
-pub record Ready (rows said table sets : List ℕ) : Type 0 where
-  pub fit : Fit (contextOf rows said)
-  pub free : Consistent (contextOf rows said)
-  pub classes : Representatives (contextOf rows said) (repAt table)
+-- the sets of a context's table, whether it is closed or not; which classes are kept apart is told exactly
+pub record Prepared (rows said table sets : List ℕ) : Type 0 where
   pub over : Over (rowsOf rows) (repAt table) (overAt (rowCount rows) sets)
   pub beside : Beside (rowsOf rows) (repAt table) (besideAt (rowCount rows) sets)
   pub live : Live (rowsOf rows) (differences (contextOf rows said)) (repAt table) (liveAt (rowCount rows) sets)
   pub apart : (a b : ℕ) → a < rowCount rows → b < rowCount rows → apartAt (rowCount rows) sets a b ≡ apartBy (repAt table) (differences (contextOf rows said)) a b
+
+pub record Ready (rows said table sets : List ℕ) : Type 0 where
+  pub fit : Fit (contextOf rows said)
+  pub free : Consistent (contextOf rows said)
+  pub classes : Representatives (contextOf rows said) (repAt table)
+  pub prepared : Prepared rows said table sets

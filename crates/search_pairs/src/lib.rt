@@ -4,6 +4,7 @@
 mod follow;
 mod labels;
 mod mates;
+pub mod prepare;
 
 use bits::member;
 use follow::follow;
@@ -39,7 +40,7 @@ fn stand_beside(sets: &[u64], n: usize, x: usize, y: usize) -> bool
 }
 
 // Whether a side of a stated difference is reached from class x through the rows over it.
-fn is_live(sets: &[u64], n: usize, x: usize) -> bool
+pub(crate) fn is_live(sets: &[u64], n: usize, x: usize) -> bool
     requires { ⌜ wordsFor n ≤ mostWords ⌝ }
     requires { ⌜ setsSize n ≤ length (now sets) ⌝ }
     requires { ⌜ x < n ⌝ }
