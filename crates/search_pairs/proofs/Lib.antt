@@ -7,6 +7,7 @@ pub mod Living
 pub mod Members
 pub mod Preparing
 pub mod Putting
+pub mod Recalling
 pub mod Rows
 pub mod Seeking
 pub mod Turning

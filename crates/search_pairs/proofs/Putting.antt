@@ -3,7 +3,7 @@
 --     put-here, put-grown, put-set     the number is in the set, what was in a set still is, and what is in each set
 --     more-none, more-then, put-more   numbers put into sets that say nothing of what is kept apart
 --     pair-seat .. live-put            one pair of classes put into its sets
---     ways                             a pair that is kept apart, either way round
+--     pair-exact, ways                 a pair put into sets, and what it says, either way round
 -- Assumes nothing.
 use mathlib.Core.Bool.{Bool, true, false, _&&_, _||_}
 use mathlib.Core.List.{List, [], _∷_}
@@ -162,9 +162,10 @@ module _ (n : ℕ) (sets : List ℕ) (x y : ℕ) (w : Pair n (length sets) x y) 
         back = put-here q;
       }
 
--- the sets of the classes a and x
-shifted : (n a x : ℕ) → eqb (n + n + a) (n + n + x) ≡ eqb a x
-shifted n a x = same-test _ _ (eqb a x) (λ (e : n + n + a ≡ n + n + x). eq-eqb a x (omega arith)) (λ e. let z : a ≡ x = eqb-true a x e in omega arith)
+-- the sets of the classes a and x, from a number on
+shifted : (base a x : ℕ) → eqb (base + a) (base + x) ≡ eqb a x
+shifted base a x =
+    same-test _ _ (eqb a x) (λ (e : base + a ≡ base + x). eq-eqb a x (omega arith)) (λ e. let z : a ≡ x = eqb-true a x e in omega arith)
 
 sum : (a b d e : Bool) → ((a || b) || (d && e)) ≡ (a || ((b || (e && d)) || false))
 sum true b d e = refl
@@ -173,6 +174,17 @@ sum false false true true = refl
 sum false false true false = refl
 sum false false false true = refl
 sum false false false false = refl
+
+-- a pair put into sets from a number on, both ways round
+pub pair-exact : (n base x y : ℕ) (a b c : List ℕ) → x < n → y < n → Put n (base + x) y a b → Put n (base + y) x b c → (i j : ℕ) → j < n
+    → has c ((base + i) * wordsFor n) j ≡ (has a ((base + i) * wordsFor n) j || apartBy (λ v. v) ((x, y) ∷ []) i j)
+unfolding apartBy
+pair-exact n base x y a b c hx hy p q i j hj =
+    put-set q hx (base + i) j hj
+    ∙ ap₂ (λ (u v : Bool). u || v)
+    (put-set p hy (base + i) j hj ∙ ap (λ (v : Bool). has a ((base + i) * wordsFor n) j || (v && eqb j y)) (shifted base i x))
+    (ap (λ (v : Bool). v && eqb j x) (shifted base i y))
+    ∙ sum (has a ((base + i) * wordsFor n) j) (eqb i x && eqb j y) (eqb i y) (eqb j x)
 
 -- the two ways round
 pub ways : (x y i j : ℕ) → apartBy (λ v. v) ((x, y) ∷ []) i j ≡ true → ((i ≡ x) × (j ≡ y)) ⊎ ((j ≡ x) × (i ≡ y))
@@ -185,15 +197,10 @@ ways x y i j h = ⊎-elim (λ u. ⊎-elim (λ v. inl (parts i x j y v)) (λ v. i
 module _ (n x y : ℕ) (sets b c d e : List ℕ) (w : Pair n (length sets) x y)
     (p : Put n (n + n + x) y sets b) (q : Put n (n + n + y) x b c) (r : Put n (n + n + n) x c d) (t : Put n (n + n + n) y d e) where
   apart-exact : (i j : ℕ) → i < n → j < n → apartAt n e i j ≡ (apartAt n sets i j || apartBy (λ v. v) ((x, y) ∷ []) i j)
-  unfolding apartBy
   apart-exact i j hi hj =
       put-other t (w .right) (n + n + i) j hj (λ z. omega arith)
       ∙ put-other r (w .left) (n + n + i) j hj (λ z. omega arith)
-      ∙ put-set q (w .left) (n + n + i) j hj
-      ∙ ap₂ (λ (u v : Bool). u || v)
-      (put-set p (w .right) (n + n + i) j hj ∙ ap (λ (v : Bool). apartAt n sets i j || (v && eqb j y)) (shifted n i x))
-      (ap (λ (v : Bool). v && eqb j x) (shifted n i y))
-      ∙ sum (apartAt n sets i j) (eqb i x && eqb j y) (eqb i y) (eqb j x)
+      ∙ pair-exact n (n + n) x y sets b c (w .left) (w .right) p q i j hj
 
   kept : (base j : ℕ) → has sets base j ≡ true → has e base j ≡ true
   kept base j h = put-grown t _ _ (put-grown r _ _ (put-grown q _ _ (put-grown p _ _ h)))

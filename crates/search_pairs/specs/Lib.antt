@@ -1,3 +1,4 @@
+pub mod Memo
 pub mod Prepare
 pub mod Ready
 pub mod Steps

@@ -4,6 +4,7 @@
 mod follow;
 mod labels;
 mod mates;
+pub mod memo;
 pub mod prepare;
 
 use bits::member;
