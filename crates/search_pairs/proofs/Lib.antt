@@ -1,6 +1,7 @@
 pub mod Asking
 pub mod Back
 pub mod Beside
+pub mod Controls
 pub mod Joining
 pub mod Live
 pub mod Living
@@ -10,5 +11,6 @@ pub mod Putting
 pub mod Recalling
 pub mod Rows
 pub mod Seeking
+pub mod Tested
 pub mod Turning
 pub mod Ways
