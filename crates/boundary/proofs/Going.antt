@@ -16,7 +16,7 @@ use Rattle.meaning.specs.FirstBy.{firstBy}
 use Rattle.meaning.specs.Formed.{Formed}
 use Rattle.meaning.specs.Replies.{breach, placesOf}
 use Rattle.meaning.specs.Listing.{OwnBreach, Lists, Goes}
-use Rattle.meaning.specs.Following.{widerBy}
+use Rattle.meaning.specs.Following.{differBy}
 use Rattle.meaning.proofs.Computed.{repOf}
 use Rattle.meaning.proofs.Computes.{computed-first}
 use Rattle.meaning.proofs.Finds.{answers-one}
@@ -33,10 +33,10 @@ module _ (c : Context) (k : Clause) (formed : Formed c k) (free : Consistent c) 
   pub first-own : (r : Found) → Answers c k r → First (OwnBreach c k) r
   first-own r w =
       let n : ℕ = length (c .rows) in
-      let f : Found = firstBy (widerBy c) (c .rows) (repOf c) n k in
+      let f : Found = firstBy (differBy c) (c .rows) (repOf c) n k in
       let e : r ≡ f = answers-one c k r f w (computed-first c k formed free (repOf c) represents n (omega arith)) in
       subst (First (OwnBreach c k)) (sym e)
-      (same-first (own-sought c k formed free (repOf c) represents n (omega arith)) f (first-sought (widerBy c) (c .rows) (repOf c) n k))
+      (same-first (own-sought c k formed free (repOf c) represents n (omega arith)) f (first-sought (differBy c) (c .rows) (repOf c) n k))
 
   module _ (onward : List ℕ → Found) (each : (a : List ℕ) → FollowsIn c k (placesOf (breach a)) (onward a)) where
     placed-front : (a : List ℕ) → length a ≡ variables (k .patterns) → take (variables (k .patterns)) (placesOf (breach a)) ≡ a

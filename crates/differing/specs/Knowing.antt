@@ -15,7 +15,7 @@ use Rattle.meaning.specs.Equality.{Promise}
 use Rattle.meaning.specs.Columns.{contextFrom}
 use Rattle.columns.specs.Fit.{Laid, FitContext}
 use Rattle.further.specs.Marks.{Marks}
-use Rattle.meaning.specs.Following.{widerBy}
+use Rattle.meaning.specs.Following.{differBy}
 
 abbrev pub markOf : Bool → ℕ
 markOf false = 1
@@ -37,4 +37,4 @@ pub record ClosedBy (symbols counts args : List ℕ) (rows : ℕ) (kinds lefts r
 
 pub record Knows (c : Context) (known : List ℕ) : Type 0 where
   pub long : length known ≡ 65025
-  pub told : (n m : ℕ) → n < 255 → m < 255 → Tells (getD known (n * 255 + m) 0) (widerBy c n m)
+  pub told : (n m : ℕ) → n < 255 → m < 255 → Tells (getD known (n * 255 + m) 0) (differBy c n m)

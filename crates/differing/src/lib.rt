@@ -4,7 +4,7 @@ ghost use mathlib.Core.Path.{_≡_};
 ghost use Prim.Native.Nat.{_+_, _*_, _<_};
 ghost use lib.ListN.{replicate};
 ghost use Rattle.meaning.specs.Columns.{contextFrom};
-ghost use Rattle.meaning.specs.Following.{widerBy};
+ghost use Rattle.meaning.specs.Following.{differBy};
 ghost use Rattle.differing.specs.Knowing.{markOf, ClosedBy, Knows};
 
 // A memo that tells nothing.
@@ -46,7 +46,7 @@ fn look<'a>(
     requires { ⌜ ClosedBy (now symbols) (now counts) (now args) rows (now kinds) (now lefts) (now rights) statements (now closed) (now busy) ⌝ }
     requires { ⌜ Knows (contextFrom (now symbols) (now counts) (now args) rows (now kinds) (now lefts) (now rights) statements) (now known) ⌝ }
     requires { ⌜ (x < rows) × (y < rows) ⌝ }
-    ensures { λ r. ⌜ r ≡ widerBy (contextFrom (now (symbols .entry)) (now (counts .entry)) (now (args .entry)) rows (now (kinds .entry)) (now (lefts .entry)) (now (rights .entry)) statements) x y ⌝ }
+    ensures { λ r. ⌜ r ≡ differBy (contextFrom (now (symbols .entry)) (now (counts .entry)) (now (args .entry)) rows (now (kinds .entry)) (now (lefts .entry)) (now (rights .entry)) statements) x y ⌝ }
     ensures { λ _. ⌜ Knows (contextFrom (now (symbols .entry)) (now (counts .entry)) (now (args .entry)) rows (now (kinds .entry)) (now (lefts .entry)) (now (rights .entry)) statements) (now (known .exit)) ⌝ }
 {
     let k = place(x, y);
@@ -93,7 +93,7 @@ pub fn ask<'a>(
 ) -> bool
     requires { ⌜ ClosedBy (now symbols) (now counts) (now args) rows (now kinds) (now lefts) (now rights) statements (now closed) (now busy) ⌝ }
     requires { ⌜ Knows (contextFrom (now symbols) (now counts) (now args) rows (now kinds) (now lefts) (now rights) statements) (now known) ⌝ }
-    ensures { λ r. ⌜ r ≡ widerBy (contextFrom (now (symbols .entry)) (now (counts .entry)) (now (args .entry)) rows (now (kinds .entry)) (now (lefts .entry)) (now (rights .entry)) statements) n m ⌝ }
+    ensures { λ r. ⌜ r ≡ differBy (contextFrom (now (symbols .entry)) (now (counts .entry)) (now (args .entry)) rows (now (kinds .entry)) (now (lefts .entry)) (now (rights .entry)) statements) n m ⌝ }
     ensures { λ _. ⌜ Knows (contextFrom (now (symbols .entry)) (now (counts .entry)) (now (args .entry)) rows (now (kinds .entry)) (now (lefts .entry)) (now (rights .entry)) statements) (now (known .exit)) ⌝ }
 {
     let x = n as usize;

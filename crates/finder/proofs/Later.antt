@@ -18,7 +18,7 @@ use Rattle.meaning.specs.Replies as M
 use Rattle.meaning.specs.Replies.{breach, none, refused, replyOf, placesOf}
 use Rattle.meaning.specs.Formed.{Formed}
 use Rattle.meaning.specs.Listing.{OwnBreach}
-use Rattle.meaning.specs.Following.{widerBy}
+use Rattle.meaning.specs.Following.{differBy}
 use Rattle.meaning.proofs.Answered.{replies-one}
 use Rattle.meaning.proofs.Order.{same-first, first-one}
 use Rattle.meaning.proofs.Pruned.{Sought}
@@ -57,9 +57,9 @@ module _ (text : List ℕ) (p : Ruled) (rules : Rules text p) where
   rep = repAt (p .table)
 
   said-follows : Formed c k → Consistent c → (after : List ℕ) → FollowsIn c k after (laterBy c (p .table) k after)
-  said-follows formed free after = same-first (λ a. (λ w. (own a .0 (w .0), w .1), λ w. (own a .1 (w .0), w .1))) (laterBy c (p .table) k after) (next-first (widerBy c) (c .rows) rep 65536 k after)
+  said-follows formed free after = same-first (λ a. (λ w. (own a .0 (w .0), w .1), λ w. (own a .1 (w .0), w .1))) (laterBy c (p .table) k after) (next-first (differBy c) (c .rows) rep 65536 k after)
     where
-      own : (a : List ℕ) → OwnBreach c k a ↔ Sought (widerBy c) (c .rows) rep 65536 k a
+      own : (a : List ℕ) → OwnBreach c k a ↔ Sought (differBy c) (c .rows) rep 65536 k a
       own a = own-sought c k formed free rep (rules .closed .rows) 65536 (omega (arith, length-rows (rowsIn (p .told)), told-fit text (p .told) (rules .told) .rows-few)) a
 
   pub ready-follows : p .answer ≡ A.Ready → (after : List ℕ) → FollowsTo text after (replyOf (laterBy c (p .table) k after))

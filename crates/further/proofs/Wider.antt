@@ -19,11 +19,11 @@ use Rattle.meaning.specs.Rules.{Differ}
 use Rattle.meaning.specs.Formed.{Fit}
 use Rattle.meaning.specs.ByTable.{clashOf, apartBy}
 use Rattle.meaning.specs.Columns.{rowsFrom, statementsFrom, contextFrom}
-use Rattle.meaning.specs.Following.{withEquation, followsBy, occursBy, widerBy}
+use Rattle.meaning.specs.Following.{withEquation, followsBy, occursBy, differBy}
 use Rattle.meaning.proofs.Logic.{or-none, false-true}
 use Rattle.meaning.proofs.Promised.{model-rows}
 use Rattle.meaning.proofs.FollowingTable.{followsBy-true, follows-first, follows-clear}
-use Rattle.meaning.proofs.FollowingNumbers.{widerBy-rows, widerBy-outside, widerBy-table, widerBy-stated, widerBy-unused}
+use Rattle.meaning.proofs.FollowingNumbers.{differBy-rows, differBy-outside, differBy-table, differBy-stated, differBy-unused}
 use Rattle.meaning.proofs.Built.{length-rows}
 use Rattle.columns.specs.Fit.{FitContext}
 use Rattle.closing.specs.Claims.{clashing}
@@ -76,10 +76,10 @@ module _ (symbols counts args : List ℕ) (n : ℕ) (kinds lefts rights : List �
   long = length-rows symbols counts args n
 
   pub clashes-first : n ≤ x → Said false
-  clashes-first h = record { wider = λ f p k. sym (widerBy-outside con x y (inl (omega (arith, long)))) }
+  clashes-first h = record { wider = λ f p k. sym (differBy-outside con x y (inl (omega (arith, long)))) }
 
   pub clashes-second : n ≤ y → Said false
-  clashes-second h = record { wider = λ f p k. sym (widerBy-outside con x y (inr (omega (arith, long)))) }
+  clashes-second h = record { wider = λ f p k. sym (differBy-outside con x y (inr (omega (arith, long)))) }
 
   module _ (hx : x < n) (hy : y < n) where
     in-x : x < length (con .rows)
@@ -100,7 +100,7 @@ module _ (symbols counts args : List ℕ) (n : ℕ) (kinds lefts rights : List �
       wider = λ fit p k.
           let w : Consistent con × (occursBy (repAt t) (con .rows) (differences con) (repAt t x) ≡ false) =
           unused fit p k x in-x (subst (λ (z : ℕ). getD busy z 0 ≡ 0) (e ∙ ea) (eqb-true (getD busy a′ 0) 0 (not-false _ (sym er ∙ f)))) in
-          sym (widerBy-unused con (fit .fit) (repAt t) (p .rows) (w .0) x y in-x in-y (inl (w .1)));
+          sym (differBy-unused con (fit .fit) (repAt t) (p .rows) (w .0) x y in-x in-y (inl (w .1)));
     }
 
     pub clashes-idle-second : (b b′ : ℕ) (r : Bool) → b ≡ repAt t y → b′ ≡ b → r ≡ not (eqb (getD busy b′ 0) 0) → r ≡ false → Said false
@@ -108,7 +108,7 @@ module _ (symbols counts args : List ℕ) (n : ℕ) (kinds lefts rights : List �
       wider = λ fit p k.
           let w : Consistent con × (occursBy (repAt t) (con .rows) (differences con) (repAt t y) ≡ false) =
           unused fit p k y in-y (subst (λ (z : ℕ). getD busy z 0 ≡ 0) (e ∙ eb) (eqb-true (getD busy b′ 0) 0 (not-false _ (sym er ∙ f)))) in
-          sym (widerBy-unused con (fit .fit) (repAt t) (p .rows) (w .0) x y in-x in-y (inr (w .1)));
+          sym (differBy-unused con (fit .fit) (repAt t) (p .rows) (w .0) x y in-x in-y (inr (w .1)));
     }
 
     pub clashes-apart : (a b : ℕ) (r : Bool) → a ≡ repAt t x → b ≡ repAt t y
@@ -116,7 +116,7 @@ module _ (symbols counts args : List ℕ) (n : ℕ) (kinds lefts rights : List �
     unfolding contextFrom
     clashes-apart a b r ea eb er e = record {
       wider = λ fit p k.
-          sym (widerBy-stated con (fit .fit) (repAt t) (p .rows) x y in-x in-y
+          sym (differBy-stated con (fit .fit) (repAt t) (p .rows) x y in-x in-y
           (ap (λ (z : ℕ). apartBy (repAt t) (differences con) z (repAt t y)) (sym ea) ∙ ap (apartBy (repAt t) (differences con) a) (sym eb) ∙ sym er ∙ e));
     }
 
@@ -128,7 +128,7 @@ module _ (symbols counts args : List ℕ) (n : ℕ) (kinds lefts rights : List �
     unfolding contextFrom
     clashes-further u r w er =
         record {
-          wider = λ fit p k. er ∙ sym (widerBy-table con (fit .fit) x y in-x in-y (repAt u) (standing-adds con (fit .fit) t p x y u w .rows));
+          wider = λ fit p k. er ∙ sym (differBy-table con (fit .fit) x y in-x in-y (repAt u) (standing-adds con (fit .fit) t p x y u w .rows));
         }
 
   -- ---- columns or a table that one cannot start from
@@ -150,8 +150,8 @@ module _ (symbols counts args : List ℕ) (n : ℕ) (kinds lefts rights : List �
   unfolding contextFrom
   clashes-differs t busy p k x y hx hy r w =
       let long : length (text .rows) ≡ n = length-rows symbols counts args n in
-      let d : Differ text (termAt (text .rows) x) (termAt (text .rows) y) ↔ (widerBy text x y ≡ true) =
-      widerBy-rows text (fit .fit) x y (omega arith) (omega arith) in
+      let d : Differ text (termAt (text .rows) x) (termAt (text .rows) y) ↔ (differBy text x y ≡ true) =
+      differBy-rows text (fit .fit) x y (omega arith) (omega arith) in
       (λ z. w .wider fit p k ∙ d .0 z, λ e. d .1 (sym (w .wider fit p k) ∙ e))
 
 pub ruleset mine = (

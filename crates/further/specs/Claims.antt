@@ -15,7 +15,7 @@ use Rattle.meaning.specs.Context.{Row, Statement, same, Context}
 use Rattle.meaning.specs.Equality.{repAt, Promise}
 use Rattle.meaning.specs.Formed.{Ordered}
 use Rattle.meaning.specs.Columns.{rowsFrom, contextFrom}
-use Rattle.meaning.specs.Following.{withEquation, widerBy}
+use Rattle.meaning.specs.Following.{withEquation, differBy}
 use Rattle.columns.specs.Fit.{Every, FitContext}
 use Rattle.closing.specs.declared.Answer.{Answer}
 use Rattle.closing.specs.declared.Answer.the-variants.{Closed, Unfit}
@@ -83,4 +83,4 @@ pub record ClosesWith (symbols counts args : List ℕ) (n : ℕ) (kinds lefts ri
 -- from a context's table and marks, whether the equation of rows x and y would make the sides of some stated difference equal
 pub record ClashesWith (symbols counts args : List ℕ) (n : ℕ) (kinds lefts rights : List ℕ) (m : ℕ) (t busy : List ℕ) (x y : ℕ) (r : Bool) : Type 0 where
   pub wider : FitContext symbols counts args n kinds lefts rights m → Promise (contextFrom symbols counts args n kinds lefts rights m) 255 t
-      → Marks (contextFrom symbols counts args n kinds lefts rights m) t busy → r ≡ widerBy (contextFrom symbols counts args n kinds lefts rights m) x y
+      → Marks (contextFrom symbols counts args n kinds lefts rights m) t busy → r ≡ differBy (contextFrom symbols counts args n kinds lefts rights m) x y

@@ -97,10 +97,10 @@ unfoldable pub doubled : ℕ → ℕ
 doubled zero = 1
 doubled (suc n) = doubled n + doubled n
 
-doubled-wider : (n m : ℕ) → n ≤ m → doubled n ≤ doubled m
+doubled-differ : (n m : ℕ) → n ≤ m → doubled n ≤ doubled m
 unfolding doubled
-doubled-wider n zero h = let e : n ≡ 0 = omega arith in rw e (omega arith)
-doubled-wider n (suc m) h = go (eqb n (suc m)) refl (doubled-wider n m)
+doubled-differ n zero h = let e : n ≡ 0 = omega arith in rw e (omega arith)
+doubled-differ n (suc m) h = go (eqb n (suc m)) refl (doubled-differ n m)
   where
     go : (b : Bool) → eqb n (suc m) ≡ b → (n ≤ m → doubled n ≤ doubled m) → doubled n ≤ doubled m + doubled m
     go true e ih = rw (eqb-true n (suc m) e) (omega arith)
@@ -114,7 +114,7 @@ few-doublings : (n : ℕ) → doubled n ≤ mostEntries → n ≤ 8
 few-doublings n h = go (ltb 8 n) refl
   where
     go : (b : Bool) → ltb 8 n ≡ b → n ≤ 8
-    go true e = absurd (omega (arith, nine, doubled-wider 9 n (omega (arith, ltb-true 8 n e))))
+    go true e = absurd (omega (arith, nine, doubled-differ 9 n (omega (arith, ltb-true 8 n e))))
     go false e = ltb-false 8 n e
 
 -- ---- payments

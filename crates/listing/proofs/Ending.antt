@@ -12,7 +12,7 @@ use Rattle.meaning.specs.Equality.{repAt}
 use Rattle.meaning.specs.Rules.{Clause, Found}
 use Rattle.meaning.specs.Replies.{breach, replyOf, placesOf, printed}
 use Rattle.meaning.specs.Listing.{Goes}
-use Rattle.meaning.specs.Following.{widerBy}
+use Rattle.meaning.specs.Following.{differBy}
 use Rattle.meaning.proofs.Listing.{goes-one}
 use Rattle.meaning.proofs.ListingNext.{everyBy, everyAfter, every-goes, after-goes}
 use Rattle.listing.specs.declared.Stage.{Stage}
@@ -23,8 +23,8 @@ use Rattle.listing.proofs.Filling.{runs-one}
 use Rattle.listing.proofs.Pieces.{onward, placed-front, Shorter, none-left, fewer, Advance, run-on, line-short}
 
 unfoldable pub restBy : Context → List ℕ → Clause → Stage → List ℕ → List (List ℕ)
-restBy c table k Start places = everyBy (widerBy c) (c .rows) (repAt table) 65536 k
-restBy c table k After places = everyAfter (widerBy c) (c .rows) (repAt table) 65536 k places
+restBy c table k Start places = everyBy (differBy c) (c .rows) (repAt table) 65536 k
+restBy c table k After places = everyAfter (differBy c) (c .rows) (repAt table) 65536 k places
 restBy c table k Done places = []
 
 -- a breach each, and the last line
@@ -50,9 +50,9 @@ module _ (c : Context) (t : List ℕ) (k : Clause) where
   rest-goes : (x : Stage) (places : List ℕ) → (x ≡ Done → ⊥) → Goes (onward c t k) (comesBy c t k x places) (restBy c t k x places)
   unfolding comesBy restBy
   rest-goes Start places h =
-      every-goes (widerBy c) (c .rows) (repAt t) 65536 k (λ a. placesOf (breach a)) placed-front
+      every-goes (differBy c) (c .rows) (repAt t) 65536 k (λ a. placesOf (breach a)) placed-front
   rest-goes After places h =
-      after-goes (widerBy c) (c .rows) (repAt t) 65536 k (λ a. placesOf (breach a)) placed-front places
+      after-goes (differBy c) (c .rows) (repAt t) 65536 k (λ a. placesOf (breach a)) placed-front places
   rest-goes Done places h = absurd (h refl)
 
   comes-goes : (s : State) (r : Found) → Comes c t k s r → Goes (onward c t k) r (restBy c t k (s .stage) (s .places))

@@ -22,7 +22,7 @@ use Rattle.meaning.specs.Formed.{AllPlaced, NamesAll}
 use Rattle.meaning.specs.Rules.{Pattern, variable, apply, Clause, variables, Found, found, nothing, First, Before, Below, rangeOf}
 use Rattle.meaning.specs.Columns.{argsAt, contextFrom, patternOf, patternsFrom, clauseFrom}
 use Rattle.meaning.specs.Replies.{breach, none, printed, placesOf}
-use Rattle.meaning.specs.Following.{widerBy}
+use Rattle.meaning.specs.Following.{differBy}
 use Rattle.meaning.proofs.Table.{length-terms}
 use Rattle.meaning.proofs.Lists.{below-wider}
 use Rattle.meaning.proofs.Pruned.{Sought}
@@ -126,20 +126,20 @@ low-bytes (x ∷ a) b = ap₂ _∷_ (omega (arith, b .0)) (low-bytes a (b .1))
 -- what is found is what is sought
 module _ (c : Context) (t : List ℕ) (k : Clause) where
   abbrev So : List ℕ → Type 0
-  So = Sought (widerBy c) (c .rows) (repAt t) 65536 k
+  So = Sought (differBy c) (c .rows) (repAt t) 65536 k
 
   pub found-sought : (a : List ℕ) → foundBy c t k ≡ found a → So a
-  found-sought a e = subst (First So) e (first-sought (widerBy c) (c .rows) (repAt t) 65536 k) .0
+  found-sought a e = subst (First So) e (first-sought (differBy c) (c .rows) (repAt t) 65536 k) .0
 
   pub next-sought : (after a : List ℕ) → laterBy c t k after ≡ found a → So a
-  next-sought after a e = subst (First (λ b. So b × Before (take (variables (k .patterns)) after) b)) e (next-first (widerBy c) (c .rows) (repAt t) 65536 k after) .0 .0
+  next-sought after a e = subst (First (λ b. So b × Before (take (variables (k .patterns)) after) b)) e (next-first (differBy c) (c .rows) (repAt t) 65536 k after) .0 .0
 
 -- rows that were found are bytes
 module _ (c : Context) (t : List ℕ) (k : Clause) (f : Fitted c k) where
   range-few : length (rangeOf c) ≤ 256
   range-few = omega (arith, length-terms (c .rows), f .rows-few)
 
-  sought-low : (a : List ℕ) → Sought (widerBy c) (c .rows) (repAt t) 65536 k a → Below 256 a
+  sought-low : (a : List ℕ) → Sought (differBy c) (c .rows) (repAt t) 65536 k a → Below 256 a
   sought-low a w = below-wider (length (rangeOf c)) 256 a range-few (starts-below c (repAt t) a (w .1))
 
 module _ (c : Context) (t : List ℕ) (k : Clause) (f : Fitted c k) (s : State) (e : Entry) where

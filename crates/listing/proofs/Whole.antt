@@ -14,7 +14,7 @@ use Rattle.meaning.specs.Rules.{Clause, Found}
 use Rattle.meaning.specs.Text.{narrow, Read, taken, read}
 use Rattle.meaning.specs.Replies.{breach, replyOf, placesOf, inputLimit, Replies}
 use Rattle.meaning.specs.Listing.{Lists, Goes, linesOf, listed, lists, printedListing, BreachesPrints, replies}
-use Rattle.meaning.specs.Following.{widerBy}
+use Rattle.meaning.specs.Following.{differBy}
 use Rattle.meaning.proofs.ListingNext.{everyBy, every-goes, every-lists}
 use Rattle.meaning.proofs.ListingPrints.{lists-one}
 use Rattle.search.specs.Finding.{foundBy}
@@ -25,10 +25,10 @@ use Rattle.listing.proofs.Pieces.{onward, placed-front, start-comes, pi
 
 module _ (c : Context) (t : List ℕ) (k : Clause) where
   abbrev pub allSought : List (List ℕ)
-  allSought = everyBy (widerBy c) (c .rows) (repAt t) 65536 k
+  allSought = everyBy (differBy c) (c .rows) (repAt t) 65536 k
 
   goes-sought : Goes (onward c t k) (foundBy c t k) allSought
-  goes-sought = every-goes (widerBy c) (c .rows) (repAt t) 65536 k (λ a. placesOf (breach a)) placed-front
+  goes-sought = every-goes (differBy c) (c .rows) (repAt t) 65536 k (λ a. placesOf (breach a)) placed-front
 
   module _ (fitted : Fitted c k) (room : ℕ → ℕ) where
     pub every-pieces : (i : ℕ) (out : List ℕ) → Pieces c t k room i startState out → out ≡ linesOf allSought

@@ -5,7 +5,7 @@
 --     rising-keeping, falling-keeping a step for each number below n
 --     round-keeping, rounds-first     a round; the search with rounds gives exactly what the plain search gives
 --     anyway-first, anyway-list       the same for any table at all, with a test of its entries; and for the list of all
---     wider-over, apart-over          two tests whose numbers that differ are classes
+--     differ-over, apart-over          two tests whose numbers that differ are classes
 -- Assumes nothing.
 use mathlib.Core.Bool.{Bool, true, _&&_, _||_}
 use mathlib.Core.List.{List, [], _∷_}
@@ -24,7 +24,7 @@ use Rattle.meaning.specs.ByTable.{apartBy}
 use Rattle.meaning.specs.Values.{numberAt, numbers}
 use Rattle.meaning.specs.FirstBy.{holdsBy, allHoldBy, breaks, firstBy}
 use Rattle.meaning.specs.Closing.{close}
-use Rattle.meaning.specs.Following.{followsBy, widerBy}
+use Rattle.meaning.specs.Following.{followsBy, differBy}
 use Rattle.meaning.specs.Grounds.{literalAt}
 use Rattle.meaning.proofs.Logic.{and-true-left, and-true-right, or-cases, false-true}
 use Rattle.meaning.proofs.Box.{Box}
@@ -218,9 +218,9 @@ module _ (differs apart bits : ℕ → ℕ → Bool) (rows : List Row) (rep : �
 -- ---- two tests of what differs
 
 -- a number that is no row differs from nothing; the wider test itself, or any that passes more, will do
-pub wider-over : (c : Context) (bound : ℕ) → length (c .rows) ≤ bound → Over bound (widerBy c) (widerBy c)
-unfolding widerBy
-wider-over c bound h =
+pub differ-over : (c : Context) (bound : ℕ) → length (c .rows) ≤ bound → Over bound (differBy c) (differBy c)
+unfolding differBy
+differ-over c bound h =
     record {
       over = λ n m e.
           let one : Bool = ltb n (length (c .rows)) in

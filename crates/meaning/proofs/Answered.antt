@@ -22,7 +22,7 @@ use Rattle.meaning.specs.Replies.{Judged, empty, clashes, answers, Repli
 use Rattle.meaning.specs.Formed.{Formed, Fit}
 use Rattle.meaning.specs.ByTable.{first, clashOf, Clashing, clear}
 use Rattle.meaning.specs.FirstBy.{firstBy}
-use Rattle.meaning.specs.Following.{widerBy}
+use Rattle.meaning.specs.Following.{differBy}
 use Rattle.meaning.proofs.Promised.{closing-represents}
 use Rattle.meaning.proofs.Apartness.{clash-first, clash-clear, first-clash-one}
 use Rattle.meaning.proofs.Finds.{answers-one}
@@ -34,7 +34,7 @@ use Rattle.meaning.proofs.Computes.{computed-first}
 -- by any table of representatives, and with the numbers outside from any offset that is no row
 module _ (c : Context) (k : Clause) (formed : Formed c k) (rep : ℕ → ℕ) (represents : Representatives c rep) (offset : ℕ) (high : length (c .rows) ≤ offset) where
   abbrev reply : Found
-  reply = firstBy (widerBy c) (c .rows) rep offset k
+  reply = firstBy (differBy c) (c .rows) rep offset k
 
   pub verdict-judged : Judged c k (verdict (k .literals) (clashOf rep (differences c)) reply)
   unfolding verdict

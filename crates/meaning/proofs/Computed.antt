@@ -16,7 +16,7 @@ use Rattle.meaning.specs.Replies.{refusal, Reply, refused, replyOf, Norm
 use Rattle.meaning.specs.ByTable.{Clashing, first, clear, clashOf}
 use Rattle.meaning.specs.FirstBy.{firstBy}
 use Rattle.meaning.specs.Closing.{close}
-use Rattle.meaning.specs.Following.{widerBy}
+use Rattle.meaning.specs.Following.{differBy}
 
 abbrev pub repOf : Context → ℕ → ℕ
 repOf c = repAt (close (c .rows) (equations c))
@@ -29,7 +29,7 @@ verdict (l ∷ ls) clear r = replyOf r
 unfoldable pub judge : Context → Clause → Reply
 judge c k =
     verdict (k .literals) (clashOf (repOf c) (differences c))
-    (firstBy (widerBy c) (c .rows) (repOf c) (length (c .rows)) k)
+    (firstBy (differBy c) (c .rows) (repOf c) (length (c .rows)) k)
 
 unfoldable pub replyOn : Reading → Reply
 replyOn (faulty f) = refused f

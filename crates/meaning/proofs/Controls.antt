@@ -21,7 +21,7 @@ use Rattle.meaning.specs.Replies.{Replies, Writes, Reply, refused, breac
 use Rattle.meaning.specs.Formed.{Fit}
 use Rattle.meaning.specs.ByTable.{sameList, clashOf, clashFrom}
 use Rattle.meaning.specs.Values.{numbers, number, stages, step, numberOf, met, isOver, held, rowsAt, levels, levelsFrom, levelOf, highest}
-use Rattle.meaning.specs.Following.{followsBy, widerBy}
+use Rattle.meaning.specs.Following.{followsBy, differBy}
 use Rattle.meaning.specs.FirstBy.{firstBy, seek, tryAll, orElse, lowest, breaks, allHoldBy, holdsBy}
 use Rattle.meaning.specs.Sheet.{sheet, bytes, lullaby, chosenTwice}
 use Rattle.meaning.specs.Demands.{Alike, Finder, Normaliser, RefusesRightly, FindsFirst, LeavesRightly, Gives, KeepsMeaning, Tells}
@@ -227,7 +227,7 @@ hastyOn (faulty f) = refused f
 hastyOn (taken s) =
     let c : Context = s .ledger .context in
     verdict (s .clause .literals) (clashOf (hastyRep c) (differences c))
-    (firstBy (widerBy c) (c .rows) (hastyRep c) (length (c .rows)) (s .clause))
+    (firstBy (differBy c) (c .rows) (hastyRep c) (length (c .rows)) (s .clause))
 
 unfoldable pub hasty : Finder
 hasty text = hastyOn (read narrow text)
@@ -237,11 +237,11 @@ unfoldable pub fiveTimes : List ℕ
 fiveTimes = bytes "01000100\n0101010100\n0101010101\n0101010102\n0101010103\n0101010104\n020300\n020500\n0400\n05000100\n0501010101\n060001\n060201\n"
 
 five-reply : replyTo fiveTimes ≡ breach (0 ∷ [])
-unfolding fiveTimes bytes read readLines linesOf linesFrom digit fields isListed listedAs sizeOf entryOf rankOf putContext putClause put firstFailing isNowhere nonDigit legible known sized ranked room namedBy tableOf noRow refers rowsAgree patternsAgree agrees testsOf firstFault replyTo replyOn judge verdict clashOf clashFrom equationsOf differencesOf firstBy seek tryAll orElse lowest breaks allHoldBy holdsBy numbers stages number step numberOf met isOver held rowsAt levels levelsFrom levelOf highest widerBy followsBy sameList variables close rounds round rowsPass rowPass statedPass upto uniteIf agree unite count move total
+unfolding fiveTimes bytes read readLines linesOf linesFrom digit fields isListed listedAs sizeOf entryOf rankOf putContext putClause put firstFailing isNowhere nonDigit legible known sized ranked room namedBy tableOf noRow refers rowsAgree patternsAgree agrees testsOf firstFault replyTo replyOn judge verdict clashOf clashFrom equationsOf differencesOf firstBy seek tryAll orElse lowest breaks allHoldBy holdsBy numbers stages number step numberOf met isOver held rowsAt levels levelsFrom levelOf highest differBy followsBy sameList variables close rounds round rowsPass rowPass statedPass upto uniteIf agree unite count move total
 five-reply = refl
 
 five-hasty : hasty fiveTimes ≡ none
-unfolding fiveTimes hasty hastyOn hastyRep bytes read readLines linesOf linesFrom digit fields isListed listedAs sizeOf entryOf rankOf putContext putClause put firstFailing isNowhere nonDigit legible known sized ranked room namedBy tableOf noRow refers rowsAgree patternsAgree agrees testsOf firstFault replyTo replyOn judge verdict clashOf clashFrom equationsOf differencesOf firstBy seek tryAll orElse lowest breaks allHoldBy holdsBy numbers stages number step numberOf met isOver held rowsAt levels levelsFrom levelOf highest widerBy followsBy sameList variables close rounds round rowsPass rowPass statedPass upto uniteIf agree unite count move total
+unfolding fiveTimes hasty hastyOn hastyRep bytes read readLines linesOf linesFrom digit fields isListed listedAs sizeOf entryOf rankOf putContext putClause put firstFailing isNowhere nonDigit legible known sized ranked room namedBy tableOf noRow refers rowsAgree patternsAgree agrees testsOf firstFault replyTo replyOn judge verdict clashOf clashFrom equationsOf differencesOf firstBy seek tryAll orElse lowest breaks allHoldBy holdsBy numbers stages number step numberOf met isOver held rowsAt levels levelsFrom levelOf highest differBy followsBy sameList variables close rounds round rowsPass rowPass statedPass upto uniteIf agree unite count move total
 five-hasty = refl
 
 pub no-hasty : (f : Finder) → f fiveTimes ≡ hasty fiveTimes → FindsFirst f → ⊥

@@ -1,12 +1,12 @@
 -- Differences that follow, by equality alone.
 --     adding-more, adding-by, adding-equal   what is equal stays equal; one added equation by another; the equation of equal terms adds nothing
---     apart-wider                            what is kept apart differs
---     clash-wider, consistent-wider          where a context contradicts itself all terms differ, and else no two equal ones
---     wider-self                             a term differs from itself just where there is a clash
---     wider-symmetric, wider-respects        it turns round, and goes with equality
---     wider-over                             where what is equal, and what is kept apart, is so in another context, what differs does too
+--     apart-differ                            what is kept apart differs
+--     clash-differ, consistent-differ          where a context contradicts itself all terms differ, and else no two equal ones
+--     differ-self                             a term differs from itself just where there is a clash
+--     differ-symmetric, differ-respects        it turns round, and goes with equality
+--     differ-over                             where what is equal, and what is kept apart, is so in another context, what differs does too
 --     with-fit, with-adding                  such a context is well-formed, and makes equal what the added equation does
---     wider-rows                             two rows differ just where the context with their equation contradicts itself
+--     differ-rows                             two rows differ just where the context with their equation contradicts itself
 -- Assumes nothing.
 use mathlib.Core.List.{_∷_}
 use mathlib.Core.Path.{refl, subst₂, sym}
@@ -43,8 +43,8 @@ adding-equal c t u e = same-mono each
 
 -- ---- what differs
 
-pub apart-wider : (c : Context) (t u : Term) → ApartIn c t u → Differ c t u
-apart-wider c t u a = (
+pub apart-differ : (c : Context) (t u : Term) → ApartIn c t u → Differ c t u
+apart-differ c t u a = (
   a .0,
   a .1,
   ⊎-elim
@@ -53,31 +53,31 @@ apart-wider c t u a = (
       (a .2),
 )
 
-pub clash-wider : (c : Context) (n : ℕ) → Clash c n → (t u : Term) → Differ c t u
-clash-wider c n w t u = (n, w .0, adding-more c t u (w .1))
+pub clash-differ : (c : Context) (n : ℕ) → Clash c n → (t u : Term) → Differ c t u
+clash-differ c n w t u = (n, w .0, adding-more c t u (w .1))
 
 equal-clash : (c : Context) (t u : Term) → EqualIn c t u → Differ c t u → (n : ℕ) × Clash c n
 equal-clash c t u e w = (w .0, (w .1, adding-equal c t u e (w .2)))
 
-pub consistent-wider : (c : Context) → Consistent c → (t u : Term) → EqualIn c t u → Differ c t u → ⊥
-consistent-wider c k t u e w = let x : (n : ℕ) × Clash c n = equal-clash c t u e w in k (x .0) (x .1)
+pub consistent-differ : (c : Context) → Consistent c → (t u : Term) → EqualIn c t u → Differ c t u → ⊥
+consistent-differ c k t u e w = let x : (n : ℕ) × Clash c n = equal-clash c t u e w in k (x .0) (x .1)
 
-pub wider-self : (c : Context) (t : Term) → Differ c t t ↔ ((n : ℕ) × Clash c n)
-wider-self c t = (equal-clash c t t reflexive, λ w. clash-wider c (w .0) (w .1) t t)
+pub differ-self : (c : Context) (t : Term) → Differ c t t ↔ ((n : ℕ) × Clash c n)
+differ-self c t = (equal-clash c t t reflexive, λ w. clash-differ c (w .0) (w .1) t t)
 
-wider-by : (c : Context) (t u t′ u′ : Term) → EqualAdding c t′ u′ t u → Differ c t u → Differ c t′ u′
-wider-by c t u t′ u′ e w = (w .0, w .1, adding-by c t u t′ u′ e (w .2))
+differ-by : (c : Context) (t u t′ u′ : Term) → EqualAdding c t′ u′ t u → Differ c t u → Differ c t′ u′
+differ-by c t u t′ u′ e w = (w .0, w .1, adding-by c t u t′ u′ e (w .2))
 
-pub wider-symmetric : (c : Context) (t u : Term) → Differ c t u → Differ c u t
-wider-symmetric c t u = wider-by c t u u t (symmetric (given added))
+pub differ-symmetric : (c : Context) (t u : Term) → Differ c t u → Differ c u t
+differ-symmetric c t u = differ-by c t u u t (symmetric (given added))
 
-pub wider-respects : (c : Context) (t t′ u u′ : Term) → EqualIn c t t′ → EqualIn c u u′ → Differ c t u → Differ c t′ u′
-wider-respects c t t′ u u′ d e =
-    wider-by c t u t′ u′ (transitive (adding-more c t′ u′ d) (transitive (given added) (symmetric (adding-more c t′ u′ e))))
+pub differ-respects : (c : Context) (t t′ u u′ : Term) → EqualIn c t t′ → EqualIn c u u′ → Differ c t u → Differ c t′ u′
+differ-respects c t t′ u u′ d e =
+    differ-by c t u t′ u′ (transitive (adding-more c t′ u′ d) (transitive (given added) (symmetric (adding-more c t′ u′ e))))
 
-pub wider-over : (c d : Context) → ((s t : Term) → EqualIn c s t → EqualIn d s t) → ((s t : Term) → ApartIn c s t → ApartIn d s t)
+pub differ-over : (c d : Context) → ((s t : Term) → EqualIn c s t → EqualIn d s t) → ((s t : Term) → ApartIn c s t → ApartIn d s t)
     → (t u : Term) → Differ c t u → Differ d t u
-wider-over c d equals aparts t u w = (
+differ-over c d equals aparts t u w = (
   a .0,
   a .1,
   ⊎-elim
@@ -125,7 +125,7 @@ with-adding c i j p q = (same-mono to, same-mono back)
     back s t (stated g) = given (suc (g .0), omega (arith, g .1), g .2, g .3)
     back s t added = given (0, omega arith, refl, refl)
 
-pub wider-rows : (c : Context) (i j : ℕ)
+pub differ-rows : (c : Context) (i j : ℕ)
     → Differ c (termAt (c .rows) i) (termAt (c .rows) j) ↔ ((n : ℕ) × Clash (withEquation c i j) n)
 unfolding differencesOf
-wider-rows c i j = (λ w. (w .0, (w .1, with-adding c i j _ _ .1 (w .2))), λ w. (w .0, w .1 .0, with-adding c i j _ _ .0 (w .1 .1)))
+differ-rows c i j = (λ w. (w .0, (w .1, with-adding c i j _ _ .1 (w .2))), λ w. (w .0, w .1 .0, with-adding c i j _ _ .0 (w .1 .1)))

@@ -18,14 +18,14 @@ use Rattle.meaning.specs.Text.{Read, Reading, faulty, taken, rowsOf, rea
 use Rattle.meaning.specs.Replies.{Reply, breach, none, refused, Replies}
 use Rattle.meaning.specs.ByTable.{sameList, clashOf, clashFrom}
 use Rattle.meaning.specs.Values.{numbers, number, stages, step, numberOf, met, isOver, held, rowsAt, levels, levelsFrom, levelOf, highest}
-use Rattle.meaning.specs.Following.{followsBy, widerBy}
+use Rattle.meaning.specs.Following.{followsBy, differBy}
 use Rattle.meaning.specs.FirstBy.{firstBy, seek, tryAll, orElse, lowest, breaks, allHoldBy, holdsBy}
 use Rattle.meaning.specs.Sheet.{bytes, further}
 use Rattle.meaning.specs.Demands.{Finder, FindsFirst}
 use Rattle.meaning.specs.Closing.{move, total, close, agree, rounds, round, rowsPass, rowPass, statedPass, upto, unite, uniteIf, count}
 use Rattle.meaning.proofs.Logic.{and-true-left, and-true-right, false-true}
 use Rattle.meaning.proofs.Taken.{read-formed}
-use Rattle.meaning.proofs.FollowingNumbers.{widerBy-inside, widerBy-rows}
+use Rattle.meaning.proofs.FollowingNumbers.{differBy-inside, differBy-rows}
 use Rattle.meaning.proofs.Computed.{repOf, verdict}
 use Rattle.meaning.proofs.Sheet.{further-shown}
 
@@ -69,15 +69,15 @@ cases =
 
 unfoldable tests : ℕ → ℕ → Bool → Reading → Bool
 tests i j b (faulty f) = false
-tests i j true (taken s) = widerBy (s .ledger .context) i j
-tests i j false (taken s) = (ltb i (length (rowsOf s)) && ltb j (length (rowsOf s))) && not (widerBy (s .ledger .context) i j)
+tests i j true (taken s) = differBy (s .ledger .context) i j
+tests i j false (taken s) = (ltb i (length (rowsOf s)) && ltb j (length (rowsOf s))) && not (differBy (s .ledger .context) i j)
 
 unfoldable test : Case → Bool
 test (differs text i j) = tests i j true (read narrow (bytes text))
 test (stays text i j) = tests i j false (read narrow (bytes text))
 
 unfoldable all : List Case → Bool
-unfolding tests test bytes widerBy followsBy read readLines linesOf linesFrom digit fields isListed listedAs sizeOf entryOf rankOf putContext putClause put firstFailing isNowhere nonDigit legible known sized ranked room namedBy tableOf noRow refers rowsAgree patternsAgree agrees testsOf firstFault equationsOf differencesOf sameList close rounds round rowsPass rowPass statedPass upto uniteIf agree unite count move total
+unfolding tests test bytes differBy followsBy read readLines linesOf linesFrom digit fields isListed listedAs sizeOf entryOf rankOf putContext putClause put firstFailing isNowhere nonDigit legible known sized ranked room namedBy tableOf noRow refers rowsAgree patternsAgree agrees testsOf firstFault equationsOf differencesOf sameList close rounds round rowsPass rowPass statedPass upto uniteIf agree unite count move total
 all [] = true
 all (e ∷ es) = test e && all es
 
@@ -89,8 +89,8 @@ tried (differs text i j) t = go (read narrow (bytes text)) refl t
     go (faulty f) e u = false-true u refl
     go (taken s) e u =
         let c : Context = s .ledger .context in
-        let w : (i < length (c .rows)) × (j < length (c .rows)) = widerBy-inside c i j u in
-        (s, e, w .0, w .1, widerBy-rows c (read-formed narrow (bytes text) s e .fit) i j (w .0) (w .1) .1 u)
+        let w : (i < length (c .rows)) × (j < length (c .rows)) = differBy-inside c i j u in
+        (s, e, w .0, w .1, differBy-rows c (read-formed narrow (bytes text) s e .fit) i j (w .0) (w .1) .1 u)
 tried (stays text i j) t = go (read narrow (bytes text)) refl t
   where
     go : (x : Reading) → read narrow (bytes text) ≡ x → tests i j false x ≡ true → Tried (stays text i j)
@@ -99,11 +99,11 @@ tried (stays text i j) t = go (read narrow (bytes text)) refl t
         let c : Context = s .ledger .context in
         let a : Bool = ltb i (length (c .rows)) in
         let b : Bool = ltb j (length (c .rows)) in
-        let h : (a && b) ≡ true = and-true-left (a && b) (not (widerBy c i j)) u in
+        let h : (a && b) ≡ true = and-true-left (a && b) (not (differBy c i j)) u in
         let l : i < length (c .rows) = ltb-true _ _ (and-true-left a b h) in
         let r : j < length (c .rows) = ltb-true _ _ (and-true-right a b h) in
-        let n : widerBy c i j ≡ false = not-true (widerBy c i j) (and-true-right (a && b) (not (widerBy c i j)) u) in
-        (s, e, l, r, λ d. false-true (widerBy-rows c (read-formed narrow (bytes text) s e .fit) i j l r .0 d) n)
+        let n : differBy c i j ≡ false = not-true (differBy c i j) (and-true-right (a && b) (not (differBy c i j)) u) in
+        (s, e, l, r, λ d. false-true (differBy-rows c (read-formed narrow (bytes text) s e .fit) i j l r .0 d) n)
 
 all-tried : (es : List Case) → all es ≡ true → AllTried es
 unfolding all

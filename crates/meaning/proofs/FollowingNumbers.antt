@@ -1,11 +1,11 @@
 -- Differences that follow, as a test of two numbers: a class below the number of rows, and from there on a term outside the table, which differs from
 -- nothing.
---     widerBy-rows, widerBy-table     it decides of rows, and any closing with their equation tells it
---     widerBy-inside, widerBy-outside what it says yes to are rows, and it says no of a number that is no row
---     widerBy-symmetric, widerBy-rep  it turns round, and asks of representatives as of rows
---     widerBy-stated, widerBy-unused  yes of rows that are kept apart, and no where the class of one occurs nowhere
---     wider-numbers                   instances of pattern rows, by any test that is right of rows
---     wider-instances                 and by this one
+--     differBy-rows, differBy-table     it decides of rows, and any closing with their equation tells it
+--     differBy-inside, differBy-outside what it says yes to are rows, and it says no of a number that is no row
+--     differBy-symmetric, differBy-rep  it turns round, and asks of representatives as of rows
+--     differBy-stated, differBy-unused  yes of rows that are kept apart, and no where the class of one occurs nowhere
+--     differ-numbers                   instances of pattern rows, by any test that is right of rows
+--     differ-instances                 and by this one
 -- Assumes nothing.
 use mathlib.Core.Bool.{Bool, true, false, _&&_}
 use mathlib.Core.List.{List, _∷_}
@@ -23,7 +23,7 @@ use Rattle.meaning.specs.Rules.{Pattern, variables, instances, Differ}
 use Rattle.meaning.specs.Formed.{Fit, AllPlaced}
 use Rattle.meaning.specs.ByTable.{apartBy}
 use Rattle.meaning.specs.Values.{numberAt, numbers, stages}
-use Rattle.meaning.specs.Following.{withEquation, followsBy, occursBy, widerBy}
+use Rattle.meaning.specs.Following.{withEquation, followsBy, occursBy, differBy}
 use Rattle.meaning.specs.Closing.{close}
 use Rattle.meaning.proofs.Logic.{and-true-left, and-true-right, false-true, bool-same}
 use Rattle.meaning.proofs.Model.{Closed, Val, atRow, eval, reify}
@@ -32,27 +32,27 @@ use Rattle.meaning.proofs.Promised.{closing-represents}
 use Rattle.meaning.proofs.Prefix.{levels-most}
 use Rattle.meaning.proofs.Levels.{stages-read}
 use Rattle.meaning.proofs.Numbered.{Means, NamedBy, numbered-stages, equal-row}
-use Rattle.meaning.proofs.Following.{wider-symmetric, wider-respects, with-fit}
-use Rattle.meaning.proofs.FollowingOutside.{Outside, outside-wider}
-use Rattle.meaning.proofs.FollowingTable.{wider-decided, stated-apart, unused-wider}
+use Rattle.meaning.proofs.Following.{differ-symmetric, differ-respects, with-fit}
+use Rattle.meaning.proofs.FollowingOutside.{Outside, outside-differ}
+use Rattle.meaning.proofs.FollowingTable.{differ-decided, stated-apart, unused-differ}
 
 -- ---- the test
 
-pub widerBy-inside : (c : Context) (n m : ℕ) → widerBy c n m ≡ true → (n < length (c .rows)) × (m < length (c .rows))
-unfolding widerBy
-widerBy-inside c n m e =
+pub differBy-inside : (c : Context) (n m : ℕ) → differBy c n m ≡ true → (n < length (c .rows)) × (m < length (c .rows))
+unfolding differBy
+differBy-inside c n m e =
     let a : Bool = ltb n (length (c .rows)) in
     let b : Bool = ltb m (length (c .rows)) in
     let w : (a && b) ≡ true = and-true-left (a && b) (followsBy (repAt (close (c .rows) ((n, m) ∷ equations c))) (differences c)) e in
     (ltb-true n (length (c .rows)) (and-true-left a b w), ltb-true m (length (c .rows)) (and-true-right a b w))
 
-pub widerBy-outside : (c : Context) (n m : ℕ) → (length (c .rows) ≤ n) ⊎ (length (c .rows) ≤ m) → widerBy c n m ≡ false
-widerBy-outside c n m out = go (widerBy c n m) refl
+pub differBy-outside : (c : Context) (n m : ℕ) → (length (c .rows) ≤ n) ⊎ (length (c .rows) ≤ m) → differBy c n m ≡ false
+differBy-outside c n m out = go (differBy c n m) refl
   where
-    go : (b : Bool) → widerBy c n m ≡ b → widerBy c n m ≡ false
+    go : (b : Bool) → differBy c n m ≡ b → differBy c n m ≡ false
     go false e = e
     go true e =
-        let w : (n < length (c .rows)) × (m < length (c .rows)) = widerBy-inside c n m e in
+        let w : (n < length (c .rows)) × (m < length (c .rows)) = differBy-inside c n m e in
         absurd (⊎-elim (λ h. omega (arith, w .0)) (λ h. omega (arith, w .1)) out)
 
 module _ (c : Context) (fit : Fit c) where
@@ -62,49 +62,49 @@ module _ (c : Context) (fit : Fit c) where
   abbrev Inside : ℕ → Type 0
   Inside i = i < length (c .rows)
 
-  by-closing : (i j : ℕ) → Inside i → Inside j → widerBy c i j ≡ followsBy (repAt (close (c .rows) ((i, j) ∷ equations c))) (differences c)
-  unfolding widerBy
+  by-closing : (i j : ℕ) → Inside i → Inside j → differBy c i j ≡ followsBy (repAt (close (c .rows) ((i, j) ∷ equations c))) (differences c)
+  unfolding differBy
   by-closing i j hi hj = rw (lt-ltb i (length (c .rows)) hi, lt-ltb j (length (c .rows)) hj) refl
 
-  pub widerBy-rows : (i j : ℕ) → Inside i → Inside j → Differ c (row i) (row j) ↔ (widerBy c i j ≡ true)
+  pub differBy-rows : (i j : ℕ) → Inside i → Inside j → Differ c (row i) (row j) ↔ (differBy c i j ≡ true)
   unfolding equationsOf
-  widerBy-rows i j hi hj =
+  differBy-rows i j hi hj =
       let w : Differ c (row i) (row j) ↔ (followsBy (repAt (close (c .rows) ((i, j) ∷ equations c))) (differences c) ≡ true) =
-      wider-decided c fit i j hi hj (repAt (close (c .rows) ((i, j) ∷ equations c))) (closing-represents (withEquation c i j) (with-fit c fit i j hi hj)) in
+      differ-decided c fit i j hi hj (repAt (close (c .rows) ((i, j) ∷ equations c))) (closing-represents (withEquation c i j) (with-fit c fit i j hi hj)) in
       (λ d. by-closing i j hi hj ∙ w .0 d, λ e. w .1 (sym (by-closing i j hi hj) ∙ e))
 
   -- two tests that both decide it are one
-  widerBy-one : (i j : ℕ) → Inside i → Inside j → (b : Bool) → Differ c (row i) (row j) ↔ (b ≡ true) → widerBy c i j ≡ b
-  widerBy-one i j hi hj b w = bool-same (widerBy c i j) b (λ e. w .0 (widerBy-rows i j hi hj .1 e)) (λ e. widerBy-rows i j hi hj .0 (w .1 e))
+  differBy-one : (i j : ℕ) → Inside i → Inside j → (b : Bool) → Differ c (row i) (row j) ↔ (b ≡ true) → differBy c i j ≡ b
+  differBy-one i j hi hj b w = bool-same (differBy c i j) b (λ e. w .0 (differBy-rows i j hi hj .1 e)) (λ e. differBy-rows i j hi hj .0 (w .1 e))
 
-  pub widerBy-table : (i j : ℕ) → Inside i → Inside j → (rep : ℕ → ℕ) → Representatives (withEquation c i j) rep
-      → widerBy c i j ≡ followsBy rep (differences c)
-  widerBy-table i j hi hj rep r = widerBy-one i j hi hj (followsBy rep (differences c)) (wider-decided c fit i j hi hj rep r)
+  pub differBy-table : (i j : ℕ) → Inside i → Inside j → (rep : ℕ → ℕ) → Representatives (withEquation c i j) rep
+      → differBy c i j ≡ followsBy rep (differences c)
+  differBy-table i j hi hj rep r = differBy-one i j hi hj (followsBy rep (differences c)) (differ-decided c fit i j hi hj rep r)
 
-  pub widerBy-symmetric : (i j : ℕ) → Inside i → Inside j → widerBy c i j ≡ widerBy c j i
-  widerBy-symmetric i j hi hj =
-      widerBy-one i j hi hj (widerBy c j i)
-      (λ d. widerBy-rows j i hj hi .0 (wider-symmetric c _ _ d), λ e. wider-symmetric c _ _ (widerBy-rows j i hj hi .1 e))
+  pub differBy-symmetric : (i j : ℕ) → Inside i → Inside j → differBy c i j ≡ differBy c j i
+  differBy-symmetric i j hi hj =
+      differBy-one i j hi hj (differBy c j i)
+      (λ d. differBy-rows j i hj hi .0 (differ-symmetric c _ _ d), λ e. differ-symmetric c _ _ (differBy-rows j i hj hi .1 e))
 
   module _ (rep : ℕ → ℕ) (r : Representatives c rep) where
-    pub widerBy-rep : (i j : ℕ) → Inside i → Inside j → widerBy c i j ≡ widerBy c (rep i) (rep j)
-    widerBy-rep i j hi hj =
-        widerBy-one i j hi hj (widerBy c (rep i) (rep j)) (
-          λ d. widerBy-rows (rep i) (rep j) (r i hi .row) (r j hj .row) .0 (wider-respects c _ _ _ _ (r i hi .equal) (r j hj .equal) d),
-          λ e. wider-respects c _ _ _ _ (symmetric (r i hi .equal)) (symmetric (r j hj .equal)) (widerBy-rows (rep i) (rep j) (r i hi .row) (r j hj .row) .1 e),
+    pub differBy-rep : (i j : ℕ) → Inside i → Inside j → differBy c i j ≡ differBy c (rep i) (rep j)
+    differBy-rep i j hi hj =
+        differBy-one i j hi hj (differBy c (rep i) (rep j)) (
+          λ d. differBy-rows (rep i) (rep j) (r i hi .row) (r j hj .row) .0 (differ-respects c _ _ _ _ (r i hi .equal) (r j hj .equal) d),
+          λ e. differ-respects c _ _ _ _ (symmetric (r i hi .equal)) (symmetric (r j hj .equal)) (differBy-rows (rep i) (rep j) (r i hi .row) (r j hj .row) .1 e),
         )
 
-    pub widerBy-stated : (i j : ℕ) → Inside i → Inside j → apartBy rep (differences c) (rep i) (rep j) ≡ true → widerBy c i j ≡ true
-    widerBy-stated i j hi hj e = widerBy-rows i j hi hj .0 (stated-apart c fit rep r i j hi hj e)
+    pub differBy-stated : (i j : ℕ) → Inside i → Inside j → apartBy rep (differences c) (rep i) (rep j) ≡ true → differBy c i j ≡ true
+    differBy-stated i j hi hj e = differBy-rows i j hi hj .0 (stated-apart c fit rep r i j hi hj e)
 
-    pub widerBy-unused : Consistent c → (i j : ℕ) → Inside i → Inside j
+    pub differBy-unused : Consistent c → (i j : ℕ) → Inside i → Inside j
         → (occursBy rep (c .rows) (differences c) (rep i) ≡ false) ⊎ (occursBy rep (c .rows) (differences c) (rep j) ≡ false)
-        → widerBy c i j ≡ false
-    widerBy-unused k i j hi hj e = go (widerBy c i j) refl
+        → differBy c i j ≡ false
+    differBy-unused k i j hi hj e = go (differBy c i j) refl
       where
-        go : (b : Bool) → widerBy c i j ≡ b → widerBy c i j ≡ false
+        go : (b : Bool) → differBy c i j ≡ b → differBy c i j ≡ false
         go false f = f
-        go true f = absurd (unused-wider c fit k rep r i j hi hj e (widerBy-rows i j hi hj .1 f))
+        go true f = absurd (unused-differ c fit k rep r i j hi hj e (differBy-rows i j hi hj .1 f))
 
 -- ---- instances
 
@@ -138,25 +138,25 @@ module _ (c : Context) (fit : Fit c) (free : Consistent c) (rep : ℕ → ℕ) (
   number-outside p hp n r hr d =
       n (omega (arith, closed .low r hr, equal-row (c .rows) (equations c) rep (fit .ordered) (fit .within) closed offset fits ps placed given chosen means p r hp hr .0 d))
 
-  pub wider-numbers : (differs : ℕ → ℕ → Bool)
+  pub differ-numbers : (differs : ℕ → ℕ → Bool)
       → ((i j : ℕ) → i < length (c .rows) → j < length (c .rows) → Differ c (termAt (c .rows) i) (termAt (c .rows) j) ↔ (differs i j ≡ true))
       → ((n m : ℕ) → (length (c .rows) ≤ n) ⊎ (length (c .rows) ≤ m) → differs n m ≡ false)
       → (p q : ℕ) → p < length ps → q < length ps → Differ c (inst p) (inst q) ↔ (differs (num p) (num q) ≡ true)
-  wider-numbers differs right out p q hp hq = go (decLt (num p) (length (c .rows))) (decLt (num q) (length (c .rows)))
+  differ-numbers differs right out p q hp hq = go (decLt (num p) (length (c .rows))) (decLt (num q) (length (c .rows)))
     where
       go : Dec (num p < length (c .rows)) → Dec (num q < length (c .rows)) → Differ c (inst p) (inst q) ↔ (differs (num p) (num q) ≡ true)
       go (yes h) (yes l) = (
-        λ d. right (num p) (num q) h l .0 (wider-respects c _ _ _ _ (number-row p hp h) (number-row q hq l) d),
-        λ e. wider-respects c _ _ _ _ (symmetric (number-row p hp h)) (symmetric (number-row q hq l)) (right (num p) (num q) h l .1 e),
+        λ d. right (num p) (num q) h l .0 (differ-respects c _ _ _ _ (number-row p hp h) (number-row q hq l) d),
+        λ e. differ-respects c _ _ _ _ (symmetric (number-row p hp h)) (symmetric (number-row q hq l)) (right (num p) (num q) h l .1 e),
       )
       go (no h) d = (
-        λ w. absurd (outside-wider c fit free (inst p) (number-outside p hp h) (inst q) .0 w),
+        λ w. absurd (outside-differ c fit free (inst p) (number-outside p hp h) (inst q) .0 w),
         λ e. false-true e (out (num p) (num q) (inl (omega arith))),
       )
       go (yes h) (no l) = (
-        λ w. absurd (outside-wider c fit free (inst q) (number-outside q hq l) (inst p) .1 w),
+        λ w. absurd (outside-differ c fit free (inst q) (number-outside q hq l) (inst p) .1 w),
         λ e. false-true e (out (num p) (num q) (inr (omega arith))),
       )
 
-  pub wider-instances : (p q : ℕ) → p < length ps → q < length ps → Differ c (inst p) (inst q) ↔ (widerBy c (num p) (num q) ≡ true)
-  wider-instances = wider-numbers (widerBy c) (widerBy-rows c fit) (widerBy-outside c)
+  pub differ-instances : (p q : ℕ) → p < length ps → q < length ps → Differ c (inst p) (inst q) ↔ (differBy c (num p) (num q) ≡ true)
+  differ-instances = differ-numbers (differBy c) (differBy-rows c fit) (differBy-outside c)

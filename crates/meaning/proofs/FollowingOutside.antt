@@ -3,7 +3,7 @@
 --     size                    how many symbols a value has outside the table
 --     redirect, valued        one value gives way to another; the value of a term then
 --     outside-keeps           an equation of a term outside adds nothing between rows
---     outside-wider           in a context that does not contradict itself a term outside differs from nothing
+--     outside-differ           in a context that does not contradict itself a term outside differs from nothing
 -- Assumes nothing.
 use mathlib.Core.List.{List, [], _∷_}
 use mathlib.Core.Path.{_≡_, refl, ap, ap₂, sym, _∙_, subst}
@@ -21,7 +21,7 @@ use Rattle.meaning.proofs.Model.{Closed, Val, Vals, Val-discrete, atRow
 use Rattle.meaning.proofs.Meaning.{Answer, answer, eval-row, named, meaning-rows}
 use Rattle.meaning.proofs.Least.{Each, least}
 use Rattle.meaning.proofs.Closes.{close-closed}
-use Rattle.meaning.proofs.Following.{adding-by, wider-symmetric}
+use Rattle.meaning.proofs.Following.{adding-by, differ-symmetric}
 
 -- ---- sizes
 
@@ -175,8 +175,8 @@ pub outside-keeps : (c : Context) → Fit c → (t u : Term) → Outside c t →
     → EqualAdding c t u (termAt (c .rows) i) (termAt (c .rows) j) → EqualIn c (termAt (c .rows) i) (termAt (c .rows) j)
 outside-keeps c fit = keeps-by c fit (repAt (close (c .rows) (equations c))) (close-closed (c .rows) (equations c) (fit .ordered) (fit .within))
 
-pub outside-wider : (c : Context) → Fit c → Consistent c → (t : Term) → Outside c t → (u : Term) → (Differ c t u → ⊥) × (Differ c u t → ⊥)
-outside-wider c fit k t out u = (never, λ w. never (wider-symmetric c u t w))
+pub outside-differ : (c : Context) → Fit c → Consistent c → (t : Term) → Outside c t → (u : Term) → (Differ c t u → ⊥) × (Differ c u t → ⊥)
+outside-differ c fit k t out u = (never, λ w. never (differ-symmetric c u t w))
   where
     never : Differ c t u → ⊥
     never w =

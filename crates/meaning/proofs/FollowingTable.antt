@@ -1,9 +1,9 @@
 -- Differences that follow, as tables of representatives tell them.
 --     followsBy-true, follows-first, follows-clear   what the computed test says of the table, and by the computed clash
---     wider-decided                                  two rows differ just where some stated difference has one representative by their equation
+--     differ-decided                                  two rows differ just where some stated difference has one representative by their equation
 --     stated-apart                                   rows that are kept apart differ
 --     occurs-at                                      what it says that a class occurs nowhere
---     unused-wider                                   where the class of one of two rows occurs nowhere, they do not differ: one merge closes the table
+--     unused-differ                                   where the class of one of two rows occurs nowhere, they do not differ: one merge closes the table
 --                                                    again, and it makes no other two classes one
 -- Assumes nothing.
 use mathlib.Core.Bool.{Bool, true, false, _||_}
@@ -28,7 +28,7 @@ use Rattle.meaning.proofs.Model.{Closed}
 use Rattle.meaning.proofs.Progress.{move-cases}
 use Rattle.meaning.proofs.Promised.{representatives-closed, closed-representatives, model-rows}
 use Rattle.meaning.proofs.Apartness.{Hits, Told, clash-told, apart-rows}
-use Rattle.meaning.proofs.Following.{apart-wider, consistent-wider, wider-symmetric, with-fit, wider-rows}
+use Rattle.meaning.proofs.Following.{apart-differ, consistent-differ, differ-symmetric, with-fit, differ-rows}
 use Rattle.meaning.proofs.FollowingClosing.{closed-sofar, lower-sofar, with-given, further-closed}
 
 -- ---- the computed test, whatever the table
@@ -66,17 +66,17 @@ follows-clear rep ds e = go (followsBy rep ds) refl
 
 -- ---- two rows, by a closing with their equation
 
-pub wider-decided : (c : Context) → Fit c → (i j : ℕ) → i < length (c .rows) → j < length (c .rows)
+pub differ-decided : (c : Context) → Fit c → (i j : ℕ) → i < length (c .rows) → j < length (c .rows)
     → (rep : ℕ → ℕ) → Representatives (withEquation c i j) rep
     → Differ c (termAt (c .rows) i) (termAt (c .rows) j) ↔ (followsBy rep (differences c) ≡ true)
 unfolding differencesOf
-wider-decided c fit i j hi hj rep r = (
+differ-decided c fit i j hi hj rep r = (
   λ w.
-      let x : (n : ℕ) × Clash (withEquation c i j) n = wider-rows c i j .0 w in
+      let x : (n : ℕ) × Clash (withEquation c i j) n = differ-rows c i j .0 w in
       followsBy-true rep (differences c) .1 (x .0, (x .1 .0, hits (x .0) (x .1 .0) .0 (x .1 .1))),
   λ e.
       let x : (n : ℕ) × Hits rep (differences c) n = followsBy-true rep (differences c) .0 e in
-      wider-rows c i j .1 (x .0, (x .1 .0, hits (x .0) (x .1 .0) .1 (x .1 .1))),
+      differ-rows c i j .1 (x .0, (x .1 .0, hits (x .0) (x .1 .0) .1 (x .1 .1))),
 )
   where
     hits : (n : ℕ) → n < length (differences c)
@@ -88,7 +88,7 @@ wider-decided c fit i j hi hj rep r = (
 
 pub stated-apart : (c : Context) → Fit c → (rep : ℕ → ℕ) → Representatives c rep → (i j : ℕ) → i < length (c .rows) → j < length (c .rows)
     → apartBy rep (differences c) (rep i) (rep j) ≡ true → Differ c (termAt (c .rows) i) (termAt (c .rows) j)
-stated-apart c fit rep r i j hi hj e = apart-wider c _ _ (apart-rows c fit rep r i j hi hj .1 e)
+stated-apart c fit rep r i j hi hj e = apart-differ c _ _ (apart-rows c fit rep r i j hi hj .1 e)
 
 -- ---- a class that occurs nowhere
 
@@ -206,7 +206,7 @@ module _ (c : Context) (fit : Fit c) (rep : ℕ → ℕ) (r : Representatives c 
     unused-differs k e w =
         let m : Representatives (withEquation c i j) merged =
         closed-representatives (withEquation c i j) (with-fit c fit i j hi hj) merged (unused-closed e) in
-        let x : (n : ℕ) × Hits merged (differences c) n = followsBy-true merged (differences c) .0 (wider-decided c fit i j hi hj merged m .0 w) in
+        let x : (n : ℕ) × Hits merged (differences c) n = followsBy-true merged (differences c) .0 (differ-decided c fit i j hi hj merged m .0 w) in
         let f : (rep (leftAt (differences c) (x .0)) ≡ rep i → ⊥) × (rep (rightAt (differences c) (x .0)) ≡ rep i → ⊥) =
         occurs-at rep (rep i) (c .rows) (differences c) e .1 (x .0) (x .1 .0) in
         k (x .0) (
@@ -221,10 +221,10 @@ module _ (c : Context) (fit : Fit c) (rep : ℕ → ℕ) (r : Representatives c 
       go : Dec (rep i < rep j) → Dec (rep j < rep i) → Differ c (termAt (c .rows) i) (termAt (c .rows) j) → ⊥
       go (yes h) d = unused-differs (rep i) (rep j) (inl (refl, refl)) h k e
       go (no h) (yes l) = unused-differs (rep j) (rep i) (inr (refl, refl)) l k e
-      go (no h) (no l) = consistent-wider c k _ _ (model-rows c fit rep r i j hi hj .1 (omega arith))
+      go (no h) (no l) = consistent-differ c k _ _ (model-rows c fit rep r i j hi hj .1 (omega arith))
 
-pub unused-wider : (c : Context) → Fit c → Consistent c → (rep : ℕ → ℕ) → Representatives c rep → (i j : ℕ) → i < length (c .rows) → j < length (c .rows)
+pub unused-differ : (c : Context) → Fit c → Consistent c → (rep : ℕ → ℕ) → Representatives c rep → (i j : ℕ) → i < length (c .rows) → j < length (c .rows)
     → (occursBy rep (c .rows) (differences c) (rep i) ≡ false) ⊎ (occursBy rep (c .rows) (differences c) (rep j) ≡ false)
     → Differ c (termAt (c .rows) i) (termAt (c .rows) j) → ⊥
-unused-wider c fit k rep r i j hi hj (inl e) w = unused-left c fit rep r i j hi hj k e w
-unused-wider c fit k rep r i j hi hj (inr e) w = unused-left c fit rep r j i hj hi k e (wider-symmetric c _ _ w)
+unused-differ c fit k rep r i j hi hj (inl e) w = unused-left c fit rep r i j hi hj k e w
+unused-differ c fit k rep r i j hi hj (inr e) w = unused-left c fit rep r j i hj hi k e (differ-symmetric c _ _ w)

@@ -17,9 +17,9 @@ use Rattle.meaning.specs.Grounds.{Ref, Step, Conclusion, conclusionFor, 
 use Rattle.meaning.specs.Checking.{entryOf, entries, keyOf, keysOf, sameKey, numbered, alike, numberLike, numbersTo, numbersOf, numberBelow, sideOf, counts, isUnequal, ownerBy, sidesBy, usedBy, citedBy, pairedBy, metBy, eachBy, congruentBy, addsBy, addedBy, derivesBy, followsBy, differsBySteps, concludesBy, firstFalse, assignedBy, choose, concludedBy, verdictBy}
 use Rattle.meaning.specs.Following as F
 use Rattle.meaning.specs.Closing.{move, total, close, agree, rounds, round, rowsPass, rowPass, statedPass, upto, unite, uniteIf, count}
-use Rattle.meaning.specs.Following.{widerBy}
+use Rattle.meaning.specs.Following.{differBy}
 use Rattle.meaning.proofs.Logic.{false-true}
-use Rattle.meaning.proofs.FollowingNumbers.{widerBy-rows}
+use Rattle.meaning.proofs.FollowingNumbers.{differBy-rows}
 use Rattle.meaning.proofs.Grounded.{verdict-one}
 use Rattle.meaning.proofs.Verdicts.{verdictBy-verified}
 
@@ -108,8 +108,8 @@ no-unlike-args a b =
 
 -- g(a,a) and g(a,b) may well be one without a and b being one
 no-alike-args : (a : List ℕ) (ls : List Literal) → Breach four (rangeOf four) (rule (unequal 2 3 ∷ ls)) a → ⊥
-unfolding instances fill instance pick terms grow widerBy F.followsBy close rounds round rowsPass rowPass statedPass upto uniteIf agree unite count move total sameList equationsOf differencesOf
-no-alike-args a ls b = false-true (widerBy-rows four four-fit 2 3 (omega arith) (omega arith) .0 (b .holds .0)) refl
+unfolding instances fill instance pick terms grow differBy F.followsBy close rounds round rowsPass rowPass statedPass upto uniteIf agree unite count move total sameList equationsOf differencesOf
+no-alike-args a ls b = false-true (differBy-rows four four-fit 2 3 (omega arith) (omega arith) .0 (b .holds .0)) refl
 
 -- ---- grounds
 

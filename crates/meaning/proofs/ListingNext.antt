@@ -24,7 +24,7 @@ use Rattle.meaning.specs.Formed.{Formed}
 use Rattle.meaning.specs.FirstBy.{breaks, firstBy}
 use Rattle.meaning.specs.Next.{earlier, nextBy}
 use Rattle.meaning.specs.Listing.{OwnRows, OwnBreach, Enumerates, Lists, Goes}
-use Rattle.meaning.specs.Following.{widerBy}
+use Rattle.meaning.specs.Following.{differBy}
 use Rattle.meaning.proofs.Logic.{false-true, and-both, and-true-left, and-true-right}
 use Rattle.meaning.proofs.Order.{same-first}
 use Rattle.meaning.proofs.Box.{Box, Mem, mem-below, AllIn, Above, above-mem, Rising, Inside, Open, open-split, open-none, open-leaf, open-replicate}
@@ -215,7 +215,7 @@ module _ (c : Context) (rep : ℕ → ℕ) (represents : Representatives c rep) 
 module _ (c : Context) (k : Clause) (formed : Formed c k) (free : Consistent c) (rep : ℕ → ℕ) (represents : Representatives c rep) (offset : ℕ)
     (high : length (c .rows) ≤ offset) where
   abbrev differs : ℕ → ℕ → Bool
-  differs = widerBy c
+  differs = differBy c
 
   pub own-sought : (a : List ℕ) → OwnBreach c k a ↔ Sought differs (c .rows) rep offset k a
   own-sought a =

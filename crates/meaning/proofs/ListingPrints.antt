@@ -15,7 +15,7 @@ use Rattle.meaning.specs.Text.{narrow, Limits, Refusal, Read, Reading, f
 use Rattle.meaning.specs.Replies.{Reply, breach, none, refused, replyOf, Replies, RepliesTo}
 use Rattle.meaning.specs.Formed.{Formed}
 use Rattle.meaning.specs.Listing.{OwnBreach, Lists, Listing, listed, unlisted, ListingTo, refuses, lists, printedListing, BreachesPrints, long, replies}
-use Rattle.meaning.specs.Following.{widerBy}
+use Rattle.meaning.specs.Following.{differBy}
 use Rattle.meaning.proofs.Promised.{closing-represents}
 use Rattle.meaning.proofs.Taken.{read-formed}
 use Rattle.meaning.proofs.Computed.{judge, repOf, replyOn, replyTo}
@@ -54,7 +54,7 @@ listingBy none l = listed l
 listingBy (refused f) l = unlisted f
 
 abbrev pub allOf : Context → Clause → List (List ℕ)
-allOf c k = everyBy (widerBy c) (c .rows) (repOf c) (length (c .rows)) k
+allOf c k = everyBy (differBy c) (c .rows) (repOf c) (length (c .rows)) k
 
 unfoldable pub listingOn : Reading → Listing
 listingOn (faulty f) = unlisted f

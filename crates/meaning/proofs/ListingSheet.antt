@@ -17,7 +17,7 @@ use Rattle.meaning.specs.Writing.{digitOf, hex, frame}
 use Rattle.meaning.specs.Replies.{codeOf, valuesOf, printed, inputLimit}
 use Rattle.meaning.specs.ByTable.{sameList, clashOf, clashFrom}
 use Rattle.meaning.specs.Values.{numbers, number, stages, step, numberOf, met, isOver, held, rowsAt, levels, levelsFrom, levelOf, highest}
-use Rattle.meaning.specs.Following.{followsBy, widerBy}
+use Rattle.meaning.specs.Following.{followsBy, differBy}
 use Rattle.meaning.specs.FirstBy.{firstBy, seek, tryAll, orElse, lowest, breaks, allHoldBy, holdsBy}
 use Rattle.meaning.specs.Listing as L
 use Rattle.meaning.specs.Listing.{printedListing, BreachesPrints, replies}
@@ -92,7 +92,7 @@ wrongs =
     ∷ []
 
 unfoldable all : (Case → Bool) → List Case → Bool
-unfolding same other bytes printedListing listingOf listingOn listingBy L.linesOf printed codeOf valuesOf frame hex digitOf everyBy every eachOf judge verdict clashOf clashFrom read readLines linesOf linesFrom digit fields isListed listedAs sizeOf entryOf rankOf putContext putClause put firstFailing isNowhere nonDigit legible known sized ranked room namedBy tableOf noRow refers rowsAgree patternsAgree agrees testsOf firstFault spotOr badByte namesFrom badField offsetOf equationsOf differencesOf firstBy seek tryAll orElse lowest breaks allHoldBy holdsBy numbers stages number step numberOf met isOver held rowsAt levels levelsFrom levelOf highest widerBy followsBy sameList variables close rounds round rowsPass rowPass statedPass upto uniteIf agree unite count move total
+unfolding same other bytes printedListing listingOf listingOn listingBy L.linesOf printed codeOf valuesOf frame hex digitOf everyBy every eachOf judge verdict clashOf clashFrom read readLines linesOf linesFrom digit fields isListed listedAs sizeOf entryOf rankOf putContext putClause put firstFailing isNowhere nonDigit legible known sized ranked room namedBy tableOf noRow refers rowsAgree patternsAgree agrees testsOf firstFault spotOr badByte namesFrom badField offsetOf equationsOf differencesOf firstBy seek tryAll orElse lowest breaks allHoldBy holdsBy numbers stages number step numberOf met isOver held rowsAt levels levelsFrom levelOf highest differBy followsBy sameList variables close rounds round rowsPass rowPass statedPass upto uniteIf agree unite count move total
 all test [] = true
 all test (e ∷ es) = test e && all test es
 

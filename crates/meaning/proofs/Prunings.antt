@@ -183,9 +183,9 @@ takeFirst free chosen ((x ∷ l) ∷ box) = elim (free (length chosen)) [ true �
 
 module _ (So : List ℕ → Type 0) (chosen : List ℕ) (x : ℕ) (l : List ℕ) (box : Box) (up : Above x l)
     (swap : (y : ℕ) (r : List ℕ) → So (chosen ++ y ∷ r) → So (chosen ++ x ∷ r)) where
-  free-wider : (a r : List ℕ) → a ≡ chosen ++ r → Inside ((x ∷ []) ∷ box) r → So a → Open So chosen ((x ∷ l) ∷ box) a
-  free-wider a [] e i s = absurd i
-  free-wider a (y ∷ r) e i s = record { rest = y ∷ r; whole = e; inside = (⊎-elim (λ q. inl q) (λ q. absurd q) (i .0), i .1); so = s }
+  free-differ : (a r : List ℕ) → a ≡ chosen ++ r → Inside ((x ∷ []) ∷ box) r → So a → Open So chosen ((x ∷ l) ∷ box) a
+  free-differ a [] e i s = absurd i
+  free-differ a (y ∷ r) e i s = record { rest = y ∷ r; whole = e; inside = (⊎-elim (λ q. inl q) (λ q. absurd q) (i .0), i .1); so = s }
 
   free-first : (a r : List ℕ) → a ≡ chosen ++ r → Inside ((x ∷ l) ∷ box) r → So a → (b : List ℕ) × Open So chosen ((x ∷ []) ∷ box) b × Upto b a
   free-first a [] e i s = absurd i
@@ -198,7 +198,7 @@ module _ (So : List ℕ → Type 0) (chosen : List ℕ) (x : ℕ) (l : List ℕ)
   free-covers : Covers (Open So chosen ((x ∷ l) ∷ box)) (Open So chosen ((x ∷ []) ∷ box))
   free-covers =
       record {
-        part = λ a o. free-wider a (o .rest) (o .whole) (o .inside) (o .so);
+        part = λ a o. free-differ a (o .rest) (o .whole) (o .inside) (o .so);
         cover = λ a o. free-first a (o .rest) (o .whole) (o .inside) (o .so);
       }
 

@@ -12,7 +12,7 @@ use Rattle.meaning.specs.Writing.{normalOf}
 use Rattle.meaning.specs.Replies.{Reply, Judged, empty, clashes, answers}
 use Rattle.meaning.specs.Formed.{Fit}
 use Rattle.meaning.proofs.Normals.{normal-equal, normal-apart, normal-consistent}
-use Rattle.meaning.proofs.Following.{wider-over}
+use Rattle.meaning.proofs.Following.{differ-over}
 
 -- ---- from a context to another, where what is equal, and what is kept apart, is so in the other
 
@@ -20,7 +20,7 @@ module _ (c d : Context) (equals : (s t : Term) → EqualIn c s t → EqualIn d 
   hold-over : (ts : List Term) (ls : List Literal) → AllHold c ts ls → AllHold d ts ls
   hold-over ts [] h = tt
   hold-over ts (equal p q ∷ ls) h = (equals _ _ (h .0), hold-over ts ls (h .1))
-  hold-over ts (unequal p q ∷ ls) h = (wider-over c d equals aparts _ _ (h .0), hold-over ts ls (h .1))
+  hold-over ts (unequal p q ∷ ls) h = (differ-over c d equals aparts _ _ (h .0), hold-over ts ls (h .1))
 
   breach-over : (range : List Term) (k : Clause) (a : List ℕ) → Breach c range k a → Breach d range k a
   breach-over range k a b = record { long = b .long; inside = b .inside; holds = hold-over _ (k .literals) (b .holds) }

@@ -16,7 +16,7 @@ use Rattle.meaning.specs.Replies.{Reply, breach, none, refused, Replies,
 use Rattle.meaning.specs.Formed.{Fit}
 use Rattle.meaning.specs.ByTable.{sameList, clashOf, clashFrom}
 use Rattle.meaning.specs.Values.{numbers, number, stages, step, numberOf, met, isOver, held, rowsAt, levels, levelsFrom, levelOf, highest}
-use Rattle.meaning.specs.Following.{followsBy, widerBy}
+use Rattle.meaning.specs.Following.{followsBy, differBy}
 use Rattle.meaning.specs.FirstBy.{firstBy, seek, tryAll, orElse, lowest, breaks, allHoldBy, holdsBy}
 use Rattle.meaning.specs.Sheet.{Example, gets, bytes, normalises, represents, equates, Shown, AllShown, sheet, further, fault, bytesNamed}
 use Rattle.meaning.specs.Closing.{move, total, close, agree, rounds, round, rowsPass, rowPass, statedPass, upto, unite, uniteIf, count}
@@ -82,7 +82,7 @@ test (represents text l) = represented l (read narrow (bytes text))
 test (equates text i j) = equated i j (read narrow (bytes text))
 
 unfoldable tests : List Example → Bool
-unfolding sameReply sameText represented equated test bytes normalOn settled contextText rowsText statementsText frame hex digitOf normalOf joins sorted insert sooner replyTo replyOn judge verdict clashOf clashFrom read readLines linesOf linesFrom digit fields isListed listedAs sizeOf entryOf rankOf putContext putClause put firstFailing isNowhere nonDigit legible known sized ranked room namedBy tableOf noRow refers rowsAgree patternsAgree agrees testsOf firstFault spotOr badByte namesFrom badField offsetOf equationsOf differencesOf firstBy seek tryAll orElse lowest breaks allHoldBy holdsBy numbers stages number step numberOf met isOver held rowsAt levels levelsFrom levelOf highest widerBy followsBy sameList variables close rounds round rowsPass rowPass statedPass upto uniteIf agree unite count move total
+unfolding sameReply sameText represented equated test bytes normalOn settled contextText rowsText statementsText frame hex digitOf normalOf joins sorted insert sooner replyTo replyOn judge verdict clashOf clashFrom read readLines linesOf linesFrom digit fields isListed listedAs sizeOf entryOf rankOf putContext putClause put firstFailing isNowhere nonDigit legible known sized ranked room namedBy tableOf noRow refers rowsAgree patternsAgree agrees testsOf firstFault spotOr badByte namesFrom badField offsetOf equationsOf differencesOf firstBy seek tryAll orElse lowest breaks allHoldBy holdsBy numbers stages number step numberOf met isOver held rowsAt levels levelsFrom levelOf highest differBy followsBy sameList variables close rounds round rowsPass rowPass statedPass upto uniteIf agree unite count move total
 tests [] = true
 tests (e ∷ es) = test e && tests es
 

@@ -13,7 +13,7 @@ use Rattle.meaning.specs.Context.{Context, Term, equations, term₀, pic
 use Rattle.meaning.specs.Equality.{Equal, reflexive, Sames, Stated, same-stop, same-more, congruent, transitive, symmetric}
 use Rattle.meaning.specs.Rules.{fill, Pattern, instance, variable, apply, instances, Literal, Holds, equal, unequal, AllHold, Clause, Below, choice, Breach}
 use Rattle.meaning.proofs.Order.{Upto, upto-map}
-use Rattle.meaning.proofs.Following.{wider-respects}
+use Rattle.meaning.proofs.Following.{differ-respects}
 
 module _ (c : Context) where
   abbrev Eq : Term → Term → Type 0
@@ -51,7 +51,7 @@ module _ (c : Context) where
 
   holds-alike : {ts us : List Term} → Alike ts us → (l : Literal) → Holds c ts l → Holds c us l
   holds-alike a (equal p q) h = transitive (symmetric (alike-at a p)) (transitive h (alike-at a q))
-  holds-alike a (unequal p q) h = wider-respects c _ _ _ _ (alike-at a p) (alike-at a q) h
+  holds-alike a (unequal p q) h = differ-respects c _ _ _ _ (alike-at a p) (alike-at a q) h
 
   pub all-hold-alike : {ts us : List Term} → Alike ts us → (ls : List Literal) → AllHold c ts ls → AllHold c us ls
   all-hold-alike a [] h = tt

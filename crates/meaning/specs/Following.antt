@@ -2,7 +2,7 @@
 --     withEquation   a context that states the equation of two rows too
 --     followsBy      whether some stated difference has one representative
 --     occursBy       whether a class has an argument of some row or a side of some difference
---     widerBy        whether two numbers differ: rows, by a closing with their equation; a number that is no row differs from nothing
+--     differBy        whether two numbers differ: rows, by a closing with their equation; a number that is no row differs from nothing
 -- Assumes nothing.
 use mathlib.Core.Bool.{Bool, false, _&&_, _||_}
 use mathlib.Core.List.{List, [], _∷_}
@@ -39,6 +39,6 @@ occursBy rep rows ds a = argumentBy rep rows a || sideBy rep ds a
 
 -- ---- the test of two numbers
 
-unfoldable pub widerBy : Context → ℕ → ℕ → Bool
-widerBy c n m =
+unfoldable pub differBy : Context → ℕ → ℕ → Bool
+differBy c n m =
     (ltb n (length (c .rows)) && ltb m (length (c .rows))) && followsBy (repAt (close (c .rows) ((n, m) ∷ equations c))) (differences c)

@@ -17,7 +17,7 @@ use Rattle.meaning.specs.Context.{Row, differ, Context, equationsOf, difference
 use Rattle.meaning.specs.Equality.{repAt}
 use Rattle.meaning.specs.Rules.{Pattern, variable, apply, equal, unequal, Clause, variables, Found, found, nothing}
 use Rattle.meaning.specs.ByTable.{apartBy, sameList}
-use Rattle.meaning.specs.Following.{followsBy, widerBy}
+use Rattle.meaning.specs.Following.{followsBy, differBy}
 use Rattle.meaning.specs.Values.{Numbering, patternAt, numberOf, step, number, stages, numbers, unread, met, isOver, held, rowsAt, levels, levelsFrom, levelOf, highest}
 use Rattle.meaning.specs.FirstBy.{holdsBy, allHoldBy, lowest, orElse, tryAll, seek, breaks, firstBy}
 use Rattle.meaning.specs.Closing.{move, total, close, agree, rounds, round, rowsPass, rowPass, statedPass, upto, unite, uniteIf, count}
@@ -93,7 +93,7 @@ unfoldable pub byRow : Search
 byRow c table k =
     let rows : List Row = c .rows in
     let rep : ℕ → ℕ = repAt table in
-    seek (λ a. allHoldBy (widerBy c) (numberByRow rows rep (k .patterns) a (unread rows rep 65536 (k .patterns) a) (upTo (levels (k .patterns)) 5) .numbers) (k .literals))
+    seek (λ a. allHoldBy (differBy c) (numberByRow rows rep (k .patterns) a (unread rows rep 65536 (k .patterns) a) (upTo (levels (k .patterns)) 5) .numbers) (k .literals))
     (lowest rep 0 (length rows)) (variables (k .patterns)) []
 
 -- f(x) = f(x), f(y) = f(x)
@@ -126,7 +126,7 @@ falling (x ∷ l) = falling l ++ (x ∷ [])
 
 unfoldable pub last : Search
 last c table k =
-    seek (breaks (widerBy c) (c .rows) (repAt table) 65536 k) (falling (lowest (repAt table) 0 (length (c .rows)))) (variables (k .patterns)) []
+    seek (breaks (differBy c) (c .rows) (repAt table) 65536 k) (falling (lowest (repAt table) 0 (length (c .rows)))) (variables (k .patterns)) []
 
 -- x = x
 abbrev itself : Clause
@@ -163,7 +163,7 @@ abbrev besideA : Clause
 besideA = record { patterns = variable 0 ∷ apply 1 [] ∷ []; literals = unequal 0 1 ∷ [] }
 
 a-found : foundBy images (0 ∷ 1 ∷ 2 ∷ 3 ∷ []) besideA ≡ found (1 ∷ [])
-unfolding widerBy followsBy equationsOf differencesOf close rounds round rowsPass rowPass statedPass upto uniteIf agree unite count move total firstBy seek tryAll orElse lowest breaks allHoldBy holdsBy numbers stages number step numberOf met isOver held rowsAt levels levelsFrom levelOf highest sameList variables
+unfolding differBy followsBy equationsOf differencesOf close rounds round rowsPass rowPass statedPass upto uniteIf agree unite count move total firstBy seek tryAll orElse lowest breaks allHoldBy holdsBy numbers stages number step numberOf met isOver held rowsAt levels levelsFrom levelOf highest sameList variables
 a-found = refl
 
 a-missed : stated images (0 ∷ 1 ∷ 2 ∷ 3 ∷ []) besideA ≡ nothing
@@ -182,10 +182,10 @@ unfoldable pub rising : (ℕ → ℕ → Bool) → ℕ → ℕ → Bool
 rising differs n m = ltb n m && differs n m
 
 unfoldable pub oneWay : Search
-oneWay c table k = firstBy (rising (widerBy c)) (c .rows) (repAt table) 65536 k
+oneWay c table k = firstBy (rising (differBy c)) (c .rows) (repAt table) 65536 k
 
 a-one-way : oneWay images (0 ∷ 1 ∷ 2 ∷ 3 ∷ []) besideA ≡ nothing
-unfolding oneWay rising widerBy followsBy equationsOf differencesOf close rounds round rowsPass rowPass statedPass upto uniteIf agree unite count move total firstBy seek tryAll orElse lowest breaks allHoldBy holdsBy numbers stages number step numberOf met isOver held rowsAt levels levelsFrom levelOf highest sameList variables
+unfolding oneWay rising differBy followsBy equationsOf differencesOf close rounds round rowsPass rowPass statedPass upto uniteIf agree unite count move total firstBy seek tryAll orElse lowest breaks allHoldBy holdsBy numbers stages number step numberOf met isOver held rowsAt levels levelsFrom levelOf highest sameList variables
 a-one-way = refl
 
 pub no-one-way : Right oneWay → ⊥

@@ -22,7 +22,7 @@ use Rattle.meaning.specs.Rules.{Pattern, variables, Clause, Below, Found, nothi
 use Rattle.meaning.specs.ByTable.{clashOf}
 use Rattle.meaning.specs.Columns.{rowsFrom, statementsFrom, patternsFrom, literalsFrom, contextFrom, clauseFrom}
 use Rattle.meaning.specs.Values.{levels, rowsAt}
-use Rattle.meaning.specs.Following.{widerBy}
+use Rattle.meaning.specs.Following.{differBy}
 use Rattle.meaning.proofs.Logic.{false-true}
 use Rattle.meaning.proofs.Lists.{below-append, below-at}
 use Rattle.meaning.proofs.Levels.{length-levels}
@@ -41,7 +41,7 @@ use Rattle.plan.specs.Plans as P
 use Rattle.plan.proofs.Levels.{ps-length, variables-few}
 use Rattle.plan.proofs.Order.{up-few}
 use Rattle.plan.proofs.Freed.{OfClasses, freed-first, never-none}
-use Rattle.meaning.proofs.FollowingNumbers.{widerBy-inside}
+use Rattle.meaning.proofs.FollowingNumbers.{differBy-inside}
 use Rattle.further.specs.Marks.{MarksOf}
 use Rattle.differing.specs.Knowing.{Lends, ClosedBy}
 use Rattle.differing.proofs.Knowing.{rows-are, unlike}
@@ -121,7 +121,7 @@ module _ {symbols counts args : List ℕ} {rows : ℕ} {kinds lefts rights : Lis
   ps = patternsFrom shapes heads arities subs patterns
 
   abbrev differs : ℕ → ℕ → Bool
-  differs = widerBy (contextFrom symbols counts args rows kinds lefts rights statements)
+  differs = differBy (contextFrom symbols counts args rows kinds lefts rights statements)
 
   g : FitClause shapes heads arities subs patterns signs firsts seconds literals
   g = plans-fit plans fit .0
@@ -156,7 +156,7 @@ module _ {symbols counts args : List ℕ} {rows : ℕ} {kinds lefts rights : Lis
   -- what differs are classes
   classes : OfClasses 65536 differs
   classes n m e =
-      let w = widerBy-inside (contextFrom symbols counts args rows kinds lefts rights statements) n m e in
+      let w = differBy-inside (contextFrom symbols counts args rows kinds lefts rights statements) n m e in
       let l = rows-are symbols counts args rows kinds lefts rights statements in
       (omega (arith, w .0, l, f .rows-few), omega (arith, w .1, l, f .rows-few))
 

@@ -16,7 +16,7 @@ use Rattle.meaning.specs.Equality.{repAt}
 use Rattle.meaning.specs.Rules.{Clause, Found}
 use Rattle.meaning.specs.ByTable.{clear, clashOf}
 use Rattle.meaning.specs.Columns.{contextFrom, clauseFrom}
-use Rattle.meaning.specs.Following.{widerBy}
+use Rattle.meaning.specs.Following.{differBy}
 use Rattle.meaning.specs.FirstBy.{firstBy}
 use Rattle.columns.specs.Fit.{FitContext, FitClause}
 use Rattle.closing.specs.declared.Contradiction.{Contradiction}
@@ -27,10 +27,10 @@ use Rattle.meaning.specs.Next.{nextBy}
 use Rattle.search.specs.Hunting.{answerOf}
 
 abbrev pub foundBy : Context → List ℕ → Clause → Found
-foundBy c table k = firstBy (widerBy c) (c .rows) (repAt table) 65536 k
+foundBy c table k = firstBy (differBy c) (c .rows) (repAt table) 65536 k
 
 abbrev pub laterBy : Context → List ℕ → Clause → List ℕ → Found
-laterBy c table k after = nextBy (widerBy c) (c .rows) (repAt table) 65536 k after
+laterBy c table k after = nextBy (differBy c) (c .rows) (repAt table) 65536 k after
 
 abbrev pub unfitReply : Reply
 unfitReply = record { kind = Unfit; places = 255 ∷ 255 ∷ 255 ∷ 255 ∷ [] }

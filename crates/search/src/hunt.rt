@@ -7,7 +7,7 @@ ghost use lib.ListN.{set, take, replicate};
 ghost use Rattle.meaning.specs.Rules.{found, nothing};
 ghost use Rattle.meaning.specs.Equality.{repAt};
 ghost use Rattle.meaning.specs.Columns.{rowsFrom, patternsFrom, literalsFrom, contextFrom};
-ghost use Rattle.meaning.specs.Following.{widerBy};
+ghost use Rattle.meaning.specs.Following.{differBy};
 ghost use Rattle.differing.specs.Knowing.{ClosedBy, Knows};
 ghost use Rattle.search.specs.Hunting.{stageOf, deadOf, startOf, rowsOf, huntOf, enterFrom, NextOwn, answerOf, isBreach, Ready, Hunting, Chosen};
 use crate::Kind;
@@ -148,7 +148,7 @@ fn enter<'a>(
     requires { ⌜ (k ≤ variables) × Chosen k chosen ⌝ }
     requires { ⌜ ClosedBy (now symbols) (now counts) (now args) rows (now kinds) (now lefts) (now rights) statements (now closed) (now busy) ⌝ }
     requires { ⌜ Knows (contextFrom (now symbols) (now counts) (now args) rows (now kinds) (now lefts) (now rights) statements) (now known) ⌝ }
-    ensures { λ r. ⌜ r ≡ answerOf (enterFrom (stageOf (rowsFrom (now (symbols .entry)) (now (counts .entry)) (now (args .entry)) rows) (repAt (now (table .entry))) (patternsFrom (now (shapes .entry)) (now (heads .entry)) (now (arities .entry)) (now (subs .entry)) patterns) (now (order .entry)) (now (ends .entry))) (deadOf (widerBy (contextFrom (now (symbols .entry)) (now (counts .entry)) (now (args .entry)) rows (now (kinds .entry)) (now (lefts .entry)) (now (rights .entry)) statements)) (now (levels .entry)) (literalsFrom (now (signs .entry)) (now (firsts .entry)) (now (seconds .entry)) literals)) (rowsOf (repAt (now (table .entry))) rows free from) (variables - k) k chosen (now (values .entry))) ⌝ }
+    ensures { λ r. ⌜ r ≡ answerOf (enterFrom (stageOf (rowsFrom (now (symbols .entry)) (now (counts .entry)) (now (args .entry)) rows) (repAt (now (table .entry))) (patternsFrom (now (shapes .entry)) (now (heads .entry)) (now (arities .entry)) (now (subs .entry)) patterns) (now (order .entry)) (now (ends .entry))) (deadOf (differBy (contextFrom (now (symbols .entry)) (now (counts .entry)) (now (args .entry)) rows (now (kinds .entry)) (now (lefts .entry)) (now (rights .entry)) statements)) (now (levels .entry)) (literalsFrom (now (signs .entry)) (now (firsts .entry)) (now (seconds .entry)) literals)) (rowsOf (repAt (now (table .entry))) rows free from) (variables - k) k chosen (now (values .entry))) ⌝ }
     ensures { λ _. ⌜ Knows (contextFrom (now (symbols .entry)) (now (counts .entry)) (now (args .entry)) rows (now (kinds .entry)) (now (lefts .entry)) (now (rights .entry)) statements) (now (known .exit)) ⌝ }
 {
     let j = wide8(k);
@@ -268,7 +268,7 @@ fn seek<'a>(
     requires { ⌜ (k ≤ variables) × Chosen k chosen ⌝ }
     requires { ⌜ ClosedBy (now symbols) (now counts) (now args) rows (now kinds) (now lefts) (now rights) statements (now closed) (now busy) ⌝ }
     requires { ⌜ Knows (contextFrom (now symbols) (now counts) (now args) rows (now kinds) (now lefts) (now rights) statements) (now known) ⌝ }
-    ensures { λ r. ⌜ r ≡ answerOf (huntOf (stageOf (rowsFrom (now (symbols .entry)) (now (counts .entry)) (now (args .entry)) rows) (repAt (now (table .entry))) (patternsFrom (now (shapes .entry)) (now (heads .entry)) (now (arities .entry)) (now (subs .entry)) patterns) (now (order .entry)) (now (ends .entry))) (deadOf (widerBy (contextFrom (now (symbols .entry)) (now (counts .entry)) (now (args .entry)) rows (now (kinds .entry)) (now (lefts .entry)) (now (rights .entry)) statements)) (now (levels .entry)) (literalsFrom (now (signs .entry)) (now (firsts .entry)) (now (seconds .entry)) literals)) (rowsOf (repAt (now (table .entry))) rows free from) (variables - k) k chosen (now (values .entry))) ⌝ }
+    ensures { λ r. ⌜ r ≡ answerOf (huntOf (stageOf (rowsFrom (now (symbols .entry)) (now (counts .entry)) (now (args .entry)) rows) (repAt (now (table .entry))) (patternsFrom (now (shapes .entry)) (now (heads .entry)) (now (arities .entry)) (now (subs .entry)) patterns) (now (order .entry)) (now (ends .entry))) (deadOf (differBy (contextFrom (now (symbols .entry)) (now (counts .entry)) (now (args .entry)) rows (now (kinds .entry)) (now (lefts .entry)) (now (rights .entry)) statements)) (now (levels .entry)) (literalsFrom (now (signs .entry)) (now (firsts .entry)) (now (seconds .entry)) literals)) (rowsOf (repAt (now (table .entry))) rows free from) (variables - k) k chosen (now (values .entry))) ⌝ }
     ensures { λ _. ⌜ Knows (contextFrom (now (symbols .entry)) (now (counts .entry)) (now (args .entry)) rows (now (kinds .entry)) (now (lefts .entry)) (now (rights .entry)) statements) (now (known .exit)) ⌝ }
 {
     if variables <= k {
@@ -352,7 +352,7 @@ pub(crate) fn start<'a>(
     requires { ⌜ Ready (now counts) (now args) rows (now shapes) (now heads) (now arities) (now subs) patterns (now order) (now ends) (now firsts) (now seconds) literals variables ⌝ }
     requires { ⌜ ClosedBy (now symbols) (now counts) (now args) rows (now kinds) (now lefts) (now rights) statements (now closed) (now busy) ⌝ }
     requires { ⌜ Knows (contextFrom (now symbols) (now counts) (now args) rows (now kinds) (now lefts) (now rights) statements) (now known) ⌝ }
-    ensures { λ r. ⌜ r ≡ answerOf (enterFrom (stageOf (rowsFrom (now (symbols .entry)) (now (counts .entry)) (now (args .entry)) rows) (repAt (now (table .entry))) (patternsFrom (now (shapes .entry)) (now (heads .entry)) (now (arities .entry)) (now (subs .entry)) patterns) (now (order .entry)) (now (ends .entry))) (deadOf (widerBy (contextFrom (now (symbols .entry)) (now (counts .entry)) (now (args .entry)) rows (now (kinds .entry)) (now (lefts .entry)) (now (rights .entry)) statements)) (now (levels .entry)) (literalsFrom (now (signs .entry)) (now (firsts .entry)) (now (seconds .entry)) literals)) (rowsOf (repAt (now (table .entry))) rows free from) variables 0 (replicate 4 255) (replicate 64 0)) ⌝ }
+    ensures { λ r. ⌜ r ≡ answerOf (enterFrom (stageOf (rowsFrom (now (symbols .entry)) (now (counts .entry)) (now (args .entry)) rows) (repAt (now (table .entry))) (patternsFrom (now (shapes .entry)) (now (heads .entry)) (now (arities .entry)) (now (subs .entry)) patterns) (now (order .entry)) (now (ends .entry))) (deadOf (differBy (contextFrom (now (symbols .entry)) (now (counts .entry)) (now (args .entry)) rows (now (kinds .entry)) (now (lefts .entry)) (now (rights .entry)) statements)) (now (levels .entry)) (literalsFrom (now (signs .entry)) (now (firsts .entry)) (now (seconds .entry)) literals)) (rowsOf (repAt (now (table .entry))) rows free from) variables 0 (replicate 4 255) (replicate 64 0)) ⌝ }
     ensures { λ _. ⌜ Knows (contextFrom (now (symbols .entry)) (now (counts .entry)) (now (args .entry)) rows (now (kinds .entry)) (now (lefts .entry)) (now (rights .entry)) statements) (now (known .exit)) ⌝ }
 {
     let chains = values::chain::link(symbols, rows);

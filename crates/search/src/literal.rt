@@ -5,7 +5,7 @@ ghost use Prim.Native.Nat.{_<_};
 ghost use lib.ListN.{getD};
 ghost use Rattle.meaning.specs.Columns.{contextFrom, literalOf, literalsFrom};
 ghost use Rattle.meaning.specs.Pruning.{fails, due};
-ghost use Rattle.meaning.specs.Following.{widerBy};
+ghost use Rattle.meaning.specs.Following.{differBy};
 ghost use Rattle.columns.specs.Fit.{NamedAt};
 ghost use Rattle.differing.specs.Knowing.{ClosedBy, Knows};
 ghost use Rattle.search.specs.Testing.{Tested, passesOf};
@@ -36,7 +36,7 @@ fn passes<'a>(
     requires { ⌜ ClosedBy (now symbols) (now counts) (now args) rows (now kinds) (now lefts) (now rights) statements (now closed) (now busy) ⌝ }
     requires { ⌜ Knows (contextFrom (now symbols) (now counts) (now args) rows (now kinds) (now lefts) (now rights) statements) (now known) ⌝ }
     requires { ⌜ (l < 16) × NamedAt (now firsts) (now seconds) 64 l ⌝ }
-    ensures { λ r. ⌜ r ≡ passesOf (widerBy (contextFrom (now (symbols .entry)) (now (counts .entry)) (now (args .entry)) rows (now (kinds .entry)) (now (lefts .entry)) (now (rights .entry)) statements)) (due level (now (levels .entry))) (now (values .entry)) (literalOf (getD (now (signs .entry)) l 0) (getD (now (firsts .entry)) l 0) (getD (now (seconds .entry)) l 0)) ⌝ }
+    ensures { λ r. ⌜ r ≡ passesOf (differBy (contextFrom (now (symbols .entry)) (now (counts .entry)) (now (args .entry)) rows (now (kinds .entry)) (now (lefts .entry)) (now (rights .entry)) statements)) (due level (now (levels .entry))) (now (values .entry)) (literalOf (getD (now (signs .entry)) l 0) (getD (now (firsts .entry)) l 0) (getD (now (seconds .entry)) l 0)) ⌝ }
     ensures { λ _. ⌜ Knows (contextFrom (now (symbols .entry)) (now (counts .entry)) (now (args .entry)) rows (now (kinds .entry)) (now (lefts .entry)) (now (rights .entry)) statements) (now (known .exit)) ⌝ }
 {
     let p = wide(firsts[l]);
@@ -90,7 +90,7 @@ pub(crate) fn all_pass<'a>(
     requires { ⌜ ClosedBy (now symbols) (now counts) (now args) rows (now kinds) (now lefts) (now rights) statements (now closed) (now busy) ⌝ }
     requires { ⌜ Knows (contextFrom (now symbols) (now counts) (now args) rows (now kinds) (now lefts) (now rights) statements) (now known) ⌝ }
     requires { ⌜ Tested (now firsts) (now seconds) literals ⌝ }
-    ensures { λ r. ⌜ r ≡ not (fails (widerBy (contextFrom (now (symbols .entry)) (now (counts .entry)) (now (args .entry)) rows (now (kinds .entry)) (now (lefts .entry)) (now (rights .entry)) statements)) (due level (now (levels .entry))) (now (values .entry)) (literalsFrom (now (signs .entry)) (now (firsts .entry)) (now (seconds .entry)) literals)) ⌝ }
+    ensures { λ r. ⌜ r ≡ not (fails (differBy (contextFrom (now (symbols .entry)) (now (counts .entry)) (now (args .entry)) rows (now (kinds .entry)) (now (lefts .entry)) (now (rights .entry)) statements)) (due level (now (levels .entry))) (now (values .entry)) (literalsFrom (now (signs .entry)) (now (firsts .entry)) (now (seconds .entry)) literals)) ⌝ }
     ensures { λ _. ⌜ Knows (contextFrom (now (symbols .entry)) (now (counts .entry)) (now (args .entry)) rows (now (kinds .entry)) (now (lefts .entry)) (now (rights .entry)) statements) (now (known .exit)) ⌝ }
 {
     let mut l = 0;

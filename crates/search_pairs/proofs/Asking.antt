@@ -16,17 +16,17 @@ use lib.ListN.{length}
 use Rattle.meaning.specs.Context.{differences}
 use Rattle.meaning.specs.Equality.{repAt}
 use Rattle.meaning.specs.ByTable.{apartBy}
-use Rattle.meaning.specs.Following.{widerBy}
+use Rattle.meaning.specs.Following.{differBy}
 use Rattle.meaning.proofs.Logic.{false-true}
 use Rattle.meaning.proofs.Promised.{representatives-closed}
-use Rattle.meaning.proofs.FollowingNumbers.{widerBy-outside, widerBy-rep, widerBy-stated}
+use Rattle.meaning.proofs.FollowingNumbers.{differBy-outside, differBy-rep, differBy-stated}
 use Rattle.bits.specs.Sets.{has}
 use Rattle.runs.specs.Runs.{rowCount, rowsOf, contextOf}
 use Rattle.runs.proofs.Saying.{length-rows}
 use Rattle.search_pairs.specs.Ready.{wordsFor, mostWords, besideAt, apartAt, liveAt, Ready}
 use Rattle.search_pairs.specs.Steps.{setsSize, Inside, Blank, Ends, Open, Settled, Asked, Followed}
-use Rattle.search_pairs.proofs.Beside.{same-wider, beside-wider}
-use Rattle.search_pairs.proofs.Live.{live-wider}
+use Rattle.search_pairs.proofs.Beside.{same-differ, beside-differ}
+use Rattle.search_pairs.proofs.Live.{live-differ}
 use Rattle.search_pairs.proofs.Joining.{set-inside}
 
 -- ---- a member of a set
@@ -69,7 +69,7 @@ module _ (rows table sets : List ℕ) (x y : ℕ) (labels work : List ℕ) (blan
           blank = blank;
           so = λ said ready ex ey.
               sym
-              (widerBy-stated (contextOf rows said) (ready .fit) (repAt table) (ready .classes) x y (inner (h .0)) (inner (h .1))
+              (differBy-stated (contextOf rows said) (ready .fit) (repAt table) (ready .classes) x y (inner (h .0)) (inner (h .1))
               (both said ex ey ∙ sym (ready .prepared .apart x y (h .0) (h .1)) ∙ ap (λ (v : ℕ). apartAt v sets x y) (sym en) ∙ sym e ∙ q));
         }
 
@@ -82,15 +82,15 @@ module _ (rows table sets : List ℕ) (x y : ℕ) (labels work : List ℕ) (blan
       where
         go : (said : List ℕ) → Ready rows said table sets → repAt table x ≡ x → repAt table y ≡ y
             → (x ≡ y) ⊎ ((besideAt (rowCount rows) sets x y ≡ false) ⊎ ((liveAt (rowCount rows) sets x ≡ false) × (liveAt (rowCount rows) sets y ≡ false)))
-            → widerBy (contextOf rows said) x y ≡ false
+            → differBy (contextOf rows said) x y ≡ false
         go said ready ex ey (inl w) =
-            same-wider (contextOf rows said) (ready .fit) (ready .free) (repAt table) (ready .classes) x y (inner (h .0)) (inner (h .1)) (ap (repAt table) w)
+            same-differ (contextOf rows said) (ready .fit) (ready .free) (repAt table) (ready .classes) x y (inner (h .0)) (inner (h .1)) (ap (repAt table) w)
         go said ready ex ey (inr (inl w)) =
-            beside-wider (contextOf rows said) (ready .fit) (ready .free) (repAt table) (ready .classes) x y (inner (h .0)) (inner (h .1)) (besideAt (rowCount rows) sets) (ready .prepared .beside)
+            beside-differ (contextOf rows said) (ready .fit) (ready .free) (repAt table) (ready .classes) x y (inner (h .0)) (inner (h .1)) (besideAt (rowCount rows) sets) (ready .prepared .beside)
             (ap₂ (besideAt (rowCount rows) sets) ex ey ∙ w)
             (both said ex ey ∙ sym (ready .prepared .apart x y (h .0) (h .1)) ∙ ap (λ (v : ℕ). apartAt v sets x y) (sym en) ∙ sym e ∙ q)
         go said ready ex ey (inr (inr w)) =
-            live-wider (contextOf rows said) (ready .fit) (ready .free) (repAt table) (ready .classes) x y (inner (h .0)) (inner (h .1)) (liveAt (rowCount rows) sets) (ready .prepared .live)
+            live-differ (contextOf rows said) (ready .fit) (ready .free) (repAt table) (ready .classes) x y (inner (h .0)) (inner (h .1)) (liveAt (rowCount rows) sets) (ready .prepared .live)
             (ap (liveAt (rowCount rows) sets) ex ∙ w .0)
             (ap (liveAt (rowCount rows) sets) ey ∙ w .1)
 
@@ -116,11 +116,11 @@ settled-tried rows table sets x y labels work labels′ work′ n r en f b = rec
 module _ (rows table sets : List ℕ) (a b : ℕ) (n : ℕ) (en : n ≡ rowCount rows) where
   pub asked-left : (labels work : List ℕ) → Blank (rowCount rows) labels work → n ≤ a → Asked rows table sets a b labels work false
   asked-left labels work k h =
-      record { blank = k; so = λ said ready. sym (widerBy-outside (contextOf rows said) a b (inl (omega (arith, length-rows rows)))) }
+      record { blank = k; so = λ said ready. sym (differBy-outside (contextOf rows said) a b (inl (omega (arith, length-rows rows)))) }
 
   pub asked-right : (labels work : List ℕ) → Blank (rowCount rows) labels work → n ≤ b → Asked rows table sets a b labels work false
   asked-right labels work k h =
-      record { blank = k; so = λ said ready. sym (widerBy-outside (contextOf rows said) a b (inr (omega (arith, length-rows rows)))) }
+      record { blank = k; so = λ said ready. sym (differBy-outside (contextOf rows said) a b (inr (omega (arith, length-rows rows)))) }
 
   pub asked-so : (x y : ℕ) (labels work : List ℕ) (r : Bool) → a < n → b < n → x ≡ repAt table a → y ≡ repAt table b → Settled rows table sets x y labels work r → Asked rows table sets a b labels work r
   asked-so x y labels work r ha hb ex ey s =
@@ -128,8 +128,8 @@ module _ (rows table sets : List ℕ) (a b : ℕ) (n : ℕ) (en : n ≡ rowCount
         blank = s .blank;
         so = λ said ready.
             s .so said ready (class said ready a ha x ex) (class said ready b hb y ey)
-            ∙ ap₂ (widerBy (contextOf rows said)) ex ey
-            ∙ sym (widerBy-rep (contextOf rows said) (ready .fit) (repAt table) (ready .classes) a b (omega (arith, length-rows rows)) (omega (arith, length-rows rows)));
+            ∙ ap₂ (differBy (contextOf rows said)) ex ey
+            ∙ sym (differBy-rep (contextOf rows said) (ready .fit) (repAt table) (ready .classes) a b (omega (arith, length-rows rows)) (omega (arith, length-rows rows)));
       }
     where
       class : (said : List ℕ) → Ready rows said table sets → (i : ℕ) → i < n → (z : ℕ) → z ≡ repAt table i → repAt table z ≡ z

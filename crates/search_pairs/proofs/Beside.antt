@@ -1,6 +1,6 @@
 -- Classes that no two rows of one symbol and count have at one place: their equation makes no other two classes one.
---     same-wider       two rows of one class do not differ
---     beside-wider     nor do rows of classes that are nowhere beside each other and not kept apart
+--     same-differ       two rows of one class do not differ
+--     beside-differ     nor do rows of classes that are nowhere beside each other and not kept apart
 -- Assumes nothing.
 use mathlib.Core.Bool.{Bool, true, false}
 use mathlib.Core.Path.{_≡_, refl, sym, _∙_, subst}
@@ -14,7 +14,7 @@ use Rattle.meaning.specs.Equality.{Consistent, Representatives}
 use Rattle.meaning.specs.Formed.{Fit}
 use Rattle.meaning.specs.ByTable.{apartBy}
 use Rattle.meaning.specs.Closing.{move}
-use Rattle.meaning.specs.Following.{widerBy}
+use Rattle.meaning.specs.Following.{differBy}
 use Rattle.meaning.proofs.Apartness.{apartBy-symmetric}
 use Rattle.meaning.proofs.FollowingClosing.{with-given}
 use Rattle.meaning.proofs.Logic.{false-true}
@@ -27,8 +27,8 @@ module _ (c : Context) (fit : Fit c) (free : Consistent c) (rep : ℕ → ℕ) (
   start : Way c rep i j (λ a. a) (λ r. false)
   start = way-start c fit free rep reps i j hi hj (λ a. a) (λ r. false) (λ a h. refl)
 
-  pub same-wider : rep i ≡ rep j → widerBy c i j ≡ false
-  same-wider e = way-done c fit free rep reps i j hi hj (λ a. a) (λ r. false) start (λ r h. refl) e
+  pub same-differ : rep i ≡ rep j → differBy c i j ≡ false
+  same-differ e = way-done c fit free rep reps i j hi hj (λ a. a) (λ r. false) start (λ r h. refl) e
 
   module _ (beside : ℕ → ℕ → Bool) (besides : Beside (c .rows) rep beside) (none : beside (rep i) (rep j) ≡ false)
       (apart : apartBy rep (differences c) (rep i) (rep j) ≡ false) where
@@ -43,7 +43,7 @@ module _ (c : Context) (fit : Fit c) (free : Consistent c) (rep : ℕ → ℕ) (
         (subst (λ (x : ℕ). beside x (rep j) ≡ true) (w .1) (subst (λ (x : ℕ). beside (rep (argOf (c .rows) s k)) x ≡ true) (w .0) (besides .each s r k l h (sym e) (sym f) (omega arith))))
         none
 
-    joined : (lo up : ℕ) → lo < up → Two lo up (rep i) (rep j) → (Two (rep i) (rep j) lo up) → widerBy c i j ≡ false
+    joined : (lo up : ℕ) → lo < up → Two lo up (rep i) (rep j) → (Two (rep i) (rep j) lo up) → differBy c i j ≡ false
     joined lo up less two back =
         way-done c fit free rep reps i j hi hj (move lo up) (λ r. false)
         (way-join c fit free rep reps i j hi hj (λ a. a) (λ r. false) start i j hi hj (with-given (c .rows) (equations c) i j) lo up two less (move lo up) (λ r. false)
@@ -74,10 +74,10 @@ module _ (c : Context) (fit : Fit c) (free : Consistent c) (rep : ℕ → ℕ) (
             high : move lo up up ≡ lo
             high = ⊎-elim (λ x. x .1) (λ x. absurd (x .0 refl)) (move-cases lo up up)
 
-    pub beside-wider : widerBy c i j ≡ false
-    beside-wider = go (decLt (rep i) (rep j)) (decLt (rep j) (rep i))
+    pub beside-differ : differBy c i j ≡ false
+    beside-differ = go (decLt (rep i) (rep j)) (decLt (rep j) (rep i))
       where
-        go : Dec (rep i < rep j) → Dec (rep j < rep i) → widerBy c i j ≡ false
+        go : Dec (rep i < rep j) → Dec (rep j < rep i) → differBy c i j ≡ false
         go (yes h) d = joined (rep i) (rep j) h (inl (refl, refl)) (inl (refl, refl))
         go (no h) (yes l) = joined (rep j) (rep i) l (inr (refl, refl)) (inr (refl, refl))
-        go (no h) (no l) = same-wider (omega arith)
+        go (no h) (no l) = same-differ (omega arith)

@@ -17,7 +17,7 @@ use Rattle.meaning.specs.Context.{equationsOf, differencesOf}
 use Rattle.meaning.specs.Columns.{statementOf}
 use Rattle.meaning.specs.ByTable.{clashOf, clashFrom, apartBy, sameList}
 use Rattle.meaning.specs.Closing.{move, total, close, agree, rounds, round, rowsPass, rowPass, statedPass, upto, unite, uniteIf, count}
-use Rattle.meaning.specs.Following.{followsBy, widerBy}
+use Rattle.meaning.specs.Following.{followsBy, differBy}
 use Rattle.meaning.specs.Equality.{repAt}
 use Rattle.meaning.proofs.Logic.{false-true, and-true-left, and-true-right}
 use Rattle.runs.specs.Fit.{Every, NamedAt}
@@ -58,7 +58,7 @@ ready₁ = ready-by rows₁ said₁ table₁ sets₁ refl refl refl refl
 
 pub some-stated : Ready rows₁ said₁ table₁ sets₁
     × (Answers rows₁ table₁ sets₁ 0 1 true × (Answers rows₁ table₁ sets₁ 1 0 true × (Answers rows₁ table₁ sets₁ 0 0 false × Answers rows₁ table₁ sets₁ 0 2 false)))
-unfolding widerBy followsBy statementOf equationsOf differencesOf rowsOf statementsOf each sameList close rounds round rowsPass rowPass statedPass upto uniteIf agree unite count move total
+unfolding differBy followsBy statementOf equationsOf differencesOf rowsOf statementsOf each sameList close rounds round rowsPass rowPass statedPass upto uniteIf agree unite count move total
 some-stated = (
   ready₁,
   (λ l w b a. a .so said₁ ready₁, (λ l w b a. a .so said₁ ready₁, (λ l w b a. a .so said₁ ready₁, λ l w b a. a .so said₁ ready₁))),
@@ -85,7 +85,7 @@ unfolding every belowBy withinBy orderedBy overBy besideBy sidesBy underBy sameB
 ready₂ = ready-by rows₂ said₂ table₂ (sets₂ 15) refl refl refl refl
 
 pub some-followed : Ready rows₂ said₂ table₂ (sets₂ 15) × (Answers rows₂ table₂ (sets₂ 15) 0 1 true × Answers rows₂ table₂ (sets₂ 15) 0 2 false)
-unfolding widerBy followsBy statementOf equationsOf differencesOf rowsOf statementsOf each sameList close rounds round rowsPass rowPass statedPass upto uniteIf agree unite count move total
+unfolding differBy followsBy statementOf equationsOf differencesOf rowsOf statementsOf each sameList close rounds round rowsPass rowPass statedPass upto uniteIf agree unite count move total
 some-followed = (ready₂, (λ l w b a. a .so said₂ ready₂, λ l w b a. a .so said₂ ready₂))
 
 -- own labels, nothing marked, and a blank memo
@@ -148,7 +148,7 @@ pub some-lent : Laid rows₂
 some-lent = (laid₂, (named₂, (inside₂, (refl, (blank₂, memo₂)))))
 
 pub some-recalled : (labels work known : List ℕ) (b : Bool) → Recalled rows₂ table₂ (sets₂ 15) 0 1 labels work known b → b ≡ true
-unfolding widerBy followsBy statementOf equationsOf differencesOf rowsOf statementsOf each sameList close rounds round rowsPass rowPass statedPass upto uniteIf agree unite count move total
+unfolding differBy followsBy statementOf equationsOf differencesOf rowsOf statementsOf each sameList close rounds round rowsPass rowPass statedPass upto uniteIf agree unite count move total
 some-recalled labels work known b r = r .asked .so said₂ ready₂
 
 pub no-one-live : Ready rows₂ said₂ table₂ (sets₂ 12) → ⊥

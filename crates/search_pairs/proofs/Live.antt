@@ -1,6 +1,6 @@
 -- Classes from which no side of a stated difference is reached through the rows over them: their equation makes no two sides equal.
 --     least-so        the lowest number that passes a test
---     live-wider      two rows of such classes do not differ
+--     live-differ      two rows of such classes do not differ
 -- All rows of such classes are taken for one. What then agrees did before, or is among them; so whatever the equation makes equal has one place in that
 -- table, and the sides keep theirs.
 -- Assumes nothing.
@@ -17,15 +17,15 @@ use Rattle.meaning.specs.Context.{Term, rowAt, termAt, Context, equationsOf, eq
 use Rattle.meaning.specs.Equality.{Equal, Clash, Stated, Consistent, Representatives, given}
 use Rattle.meaning.specs.Formed.{Fit, Within}
 use Rattle.meaning.specs.Closing.{count}
-use Rattle.meaning.specs.Following.{withEquation, widerBy}
+use Rattle.meaning.specs.Following.{withEquation, differBy}
 use Rattle.meaning.proofs.Closes.{length-count, repAt-count}
 use Rattle.meaning.proofs.Logic.{false-true}
 use Rattle.meaning.proofs.Meaning.{meaning-rows}
 use Rattle.meaning.proofs.Model.{Closed}
 use Rattle.meaning.proofs.Pairs.{same-mono}
 use Rattle.meaning.proofs.Promised.{representatives-closed, model-rows}
-use Rattle.meaning.proofs.Following.{wider-rows}
-use Rattle.meaning.proofs.FollowingNumbers.{widerBy-rows}
+use Rattle.meaning.proofs.Following.{differ-rows}
+use Rattle.meaning.proofs.FollowingNumbers.{differBy-rows}
 use Rattle.search_pairs.specs.Ready.{Live}
 
 abbrev Least : (ℕ → Bool) → ℕ → ℕ → Type 0
@@ -222,9 +222,9 @@ module _ (c : Context) (fit : Fit c) (free : Consistent c) (rep : ℕ → ℕ) (
       meaning-rows (c .rows) said v (fit .ordered) within v-closed _ _ p q .0 (same-mono each e) in
       free n (h, model-rows c fit rep reps _ _ p q .1 (v-same _ _ (lives .left n h) w))
 
-  pub live-wider : widerBy c i j ≡ false
-  live-wider = go (widerBy c i j) refl
+  pub live-differ : differBy c i j ≡ false
+  live-differ = go (differBy c i j) refl
     where
-      go : (b : Bool) → widerBy c i j ≡ b → widerBy c i j ≡ false
+      go : (b : Bool) → differBy c i j ≡ b → differBy c i j ≡ false
       go false e = e
-      go true e = let w : (n : ℕ) × Clash (withEquation c i j) n = wider-rows c i j .0 (widerBy-rows c fit i j hi hj .1 e) in absurd (never (w .0) (w .1))
+      go true e = let w : (n : ℕ) × Clash (withEquation c i j) n = differ-rows c i j .0 (differBy-rows c fit i j hi hj .1 e) in absurd (never (w .0) (w .1))

@@ -17,9 +17,9 @@ use borrow.Author.Needs.{needs}
 use borrow.Author.Tests.{not-true, not-false}
 use lib.ListN.{length, getD}
 use Rattle.meaning.specs.Equality.{repAt}
-use Rattle.meaning.specs.Following.{widerBy}
+use Rattle.meaning.specs.Following.{differBy}
 use Rattle.meaning.proofs.Logic.{false-true, or-none}
-use Rattle.meaning.proofs.FollowingNumbers.{widerBy-symmetric, widerBy-outside, widerBy-rep}
+use Rattle.meaning.proofs.FollowingNumbers.{differBy-symmetric, differBy-outside, differBy-rep}
 use Rattle.runs.specs.Runs.{rowCount, contextOf}
 use Rattle.runs.proofs.Saying.{length-rows}
 use Rattle.bits.specs.Sets.{has, bitAt, Emptied}
@@ -162,16 +162,16 @@ module _ (rows table sets : List ℕ) (x y : ℕ) (labels work old new : List �
       and-false false = refl
 
   right : (said : List ℕ) → Ready rows said table sets → (a b : ℕ) → a < rowCount rows → b < rowCount rows
-      → ((a ≡ x) × (b ≡ y)) ⊎ ((b ≡ x) × (a ≡ y)) → r ≡ widerBy (contextOf rows said) a b
-  right said ready a b ha hb (inl w) = s .so said ready ∙ ap₂ (widerBy (contextOf rows said)) (sym (w .0)) (sym (w .1))
+      → ((a ≡ x) × (b ≡ y)) ⊎ ((b ≡ x) × (a ≡ y)) → r ≡ differBy (contextOf rows said) a b
+  right said ready a b ha hb (inl w) = s .so said ready ∙ ap₂ (differBy (contextOf rows said)) (sym (w .0)) (sym (w .1))
   right said ready a b ha hb (inr w) =
       s .so said ready
-      ∙ ap₂ (widerBy (contextOf rows said)) (sym (w .0)) (sym (w .1))
-      ∙ widerBy-symmetric (contextOf rows said) (ready .fit) b a (omega (arith, length-rows rows)) (omega (arith, length-rows rows))
+      ∙ ap₂ (differBy (contextOf rows said)) (sym (w .0)) (sym (w .1))
+      ∙ differBy-symmetric (contextOf rows said) (ready .fit) b a (omega (arith, length-rows rows)) (omega (arith, length-rows rows))
 
   -- the pair itself
   this-pair : (said : List ℕ) → Ready rows said table sets → (a b : ℕ) → a < rowCount rows → b < rowCount rows → isPair x y a b ≡ true
-      → (k : Bool) → knownAt (rowCount rows) old a b ≡ k → differsAt (rowCount rows) new a b ≡ widerBy (contextOf rows said) a b
+      → (k : Bool) → knownAt (rowCount rows) old a b ≡ k → differsAt (rowCount rows) new a b ≡ differBy (contextOf rows said) a b
   this-pair said ready a b ha hb e k ek =
       t .differs a b ha hb
       ∙ ap (λ (v : Bool). differsAt (rowCount rows) old a b || (r && v)) e
@@ -206,7 +206,7 @@ module _ (rows table sets : List ℕ) (x y : ℕ) (labels work old new : List �
       or-first false v e f = false-true f e
 
       go : (said : List ℕ) → Ready rows said table sets → (a b : ℕ) → a < rowCount rows → b < rowCount rows → knownAt (rowCount rows) new a b ≡ true
-          → (p : Bool) → isPair x y a b ≡ p → differsAt (rowCount rows) new a b ≡ widerBy (contextOf rows said) a b
+          → (p : Bool) → isPair x y a b ≡ p → differsAt (rowCount rows) new a b ≡ differBy (contextOf rows said) a b
       go said ready a b ha hb h true e = this-pair said ready a b ha hb e (knownAt (rowCount rows) old a b) refl
       go said ready a b ha hb h false e =
           other-pair a b ha hb e
@@ -255,11 +255,11 @@ module _ (n : ℕ) (rows table sets labels work known : List ℕ) (x y : ℕ) (w
 module _ (n : ℕ) (rows table sets known : List ℕ) (a b : ℕ) (en : n ≡ rowCount rows) where
   pub recall-left : (labels work : List ℕ) → Blank (rowCount rows) labels work → Memo rows table sets known → n ≤ a → Recalled rows table sets a b labels work known false
   recall-left labels work k m h =
-      record { asked = record { blank = k; so = λ said ready. sym (widerBy-outside (contextOf rows said) a b (inl (omega (arith, length-rows rows)))) }; memo = m }
+      record { asked = record { blank = k; so = λ said ready. sym (differBy-outside (contextOf rows said) a b (inl (omega (arith, length-rows rows)))) }; memo = m }
 
   pub recall-right : (labels work : List ℕ) → Blank (rowCount rows) labels work → Memo rows table sets known → n ≤ b → Recalled rows table sets a b labels work known false
   recall-right labels work k m h =
-      record { asked = record { blank = k; so = λ said ready. sym (widerBy-outside (contextOf rows said) a b (inr (omega (arith, length-rows rows)))) }; memo = m }
+      record { asked = record { blank = k; so = λ said ready. sym (differBy-outside (contextOf rows said) a b (inr (omega (arith, length-rows rows)))) }; memo = m }
 
   module _ (x y : ℕ) (ha : a < n) (hb : b < n) (ex : x ≡ repAt table a) (ey : y ≡ repAt table b) where
     pub recall-asks : (labels work : List ℕ) → Laid rows → Inside (rowCount rows) table → setsSize (rowCount rows) ≤ length sets → Blank (rowCount rows) labels work
@@ -284,8 +284,8 @@ module _ (n : ℕ) (rows table sets known : List ℕ) (a b : ℕ) (en : n ≡ ro
                 blank = s .asked .blank;
                 so = λ said ready.
                     s .asked .so said ready
-                    ∙ ap₂ (widerBy (contextOf rows said)) ex ey
-                    ∙ sym (widerBy-rep (contextOf rows said) (ready .fit) (repAt table) (ready .classes) a b (omega (arith, length-rows rows)) (omega (arith, length-rows rows)));
+                    ∙ ap₂ (differBy (contextOf rows said)) ex ey
+                    ∙ sym (differBy-rep (contextOf rows said) (ready .fit) (repAt table) (ready .classes) a b (omega (arith, length-rows rows)) (omega (arith, length-rows rows)));
               };
           memo = s .memo;
         }

@@ -18,7 +18,7 @@ use Rattle.meaning.specs.Context.{rowAt, termAt, equations, differences}
 use Rattle.meaning.specs.Equality.{Equal, repAt}
 use Rattle.meaning.specs.ByTable.{apartBy}
 use Rattle.meaning.specs.Closing.{move, total}
-use Rattle.meaning.specs.Following.{widerBy}
+use Rattle.meaning.specs.Following.{differBy}
 use Rattle.meaning.proofs.Logic.{false-true, and-true-left, and-both, and-false}
 use Rattle.meaning.proofs.Lists.{below-at}
 use Rattle.meaning.proofs.Apartness.{apartBy-symmetric}
@@ -141,7 +141,7 @@ module _ (rows said table sets : List ℕ) (ready : Ready rows said table sets) 
             ∙ clear .clear refl b a (outer hb) (outer ha) (eb ∙ sym (w .0)) (ea ∙ sym (w .1)))
             (join .two)
 
-    pub met-clash : Clashing (rowCount rows) sets labels x y true → widerBy (contextOf rows said) i j ≡ true
+    pub met-clash : Clashing (rowCount rows) sets labels x y true → differBy (contextOf rows said) i j ≡ true
     met-clash k =
         let w : (a : ℕ) × (b : ℕ) × (a < rowCount rows) × (b < rowCount rows) × (repAt labels a ≡ x) × (repAt labels b ≡ y) × (apartAt (rowCount rows) sets a b ≡ true) = k .found refl in
         way-clash (contextOf rows said) (ready .fit) (ready .free) (repAt table) (ready .classes) i j (inner hi) (inner hj) (repAt labels) (markedAt work) way

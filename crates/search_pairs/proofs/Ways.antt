@@ -16,7 +16,7 @@ use Rattle.meaning.specs.Context.{rowAt, termAt, Context, equationsOf, equation
 use Rattle.meaning.specs.Equality.{Equal, Consistent, Representatives, symmetric, transitive}
 use Rattle.meaning.specs.Formed.{Fit}
 use Rattle.meaning.specs.ByTable.{apartBy}
-use Rattle.meaning.specs.Following.{withEquation, followsBy, widerBy}
+use Rattle.meaning.specs.Following.{withEquation, followsBy, differBy}
 use Rattle.meaning.specs.Closing.{Sofar, move}
 use Rattle.meaning.proofs.Logic.{false-true}
 use Rattle.meaning.proofs.Lists.{below-at}
@@ -25,10 +25,10 @@ use Rattle.meaning.proofs.Progress.{move-cases, merge-keeps}
 use Rattle.meaning.proofs.Closes.{agree-equal}
 use Rattle.meaning.proofs.Promised.{representatives-closed, closed-representatives, model-rows}
 use Rattle.meaning.proofs.Apartness.{Hits, Meets, apartBy-true, apartBy-symmetric}
-use Rattle.meaning.proofs.Following.{with-fit, wider-rows}
+use Rattle.meaning.proofs.Following.{with-fit, differ-rows}
 use Rattle.meaning.proofs.FollowingClosing.{closed-sofar, further-closed}
 use Rattle.meaning.proofs.FollowingTable.{followsBy-true}
-use Rattle.meaning.proofs.FollowingNumbers.{widerBy-rows, widerBy-table}
+use Rattle.meaning.proofs.FollowingNumbers.{differBy-rows, differBy-table}
 use Rattle.search_pairs.specs.Ready.{argOf, argCount}
 use Rattle.search_pairs.specs.Steps.{Two, SameSymbol, SameArgs, Way}
 
@@ -187,9 +187,9 @@ module _ (c : Context) (fit : Fit c) (free : Consistent c) (rep : ℕ → ℕ) (
                 (move-two lo up (lab a) (lab b) (sym (moved a h) ∙ e ∙ moved b l))
 
       -- members of the two labels that are kept apart
-      pub way-clash : (a b : ℕ) → lab a ≡ lo → lab b ≡ up → apartBy rep (differences c) a b ≡ true → widerBy c i j ≡ true
+      pub way-clash : (a b : ℕ) → lab a ≡ lo → lab b ≡ up → apartBy rep (differences c) a b ≡ true → differBy c i j ≡ true
       unfolding equationsOf differencesOf
-      way-clash a b ea eb e = widerBy-rows c fit i j hi hj .0 (wider-rows c i j .1 (w .0, (w .1, sides (w .2))))
+      way-clash a b ea eb e = differBy-rows c fit i j hi hj .0 (differ-rows c i j .1 (w .0, (w .1, sides (w .2))))
         where
           w : (k : ℕ) × (k < length (differences c)) × Meets rep a b (getD (differences c) k (0, 0))
           w = apartBy-true rep (differences c) a b .0 e
@@ -228,9 +228,9 @@ module _ (c : Context) (fit : Fit c) (free : Consistent c) (rep : ℕ → ℕ) (
             go (no z) (no w) = ⊎-elim (λ g. inl g) (λ g. inr (⊎-elim (λ m. inl (kept x h z m)) (λ m. inr (kept y l w m)) g)) (way .agreeing x y h l e f)
 
     -- nothing is marked
-    pub way-done : ((r : ℕ) → r < count → marked r ≡ false) → lab (rep i) ≡ lab (rep j) → widerBy c i j ≡ false
+    pub way-done : ((r : ℕ) → r < count → marked r ≡ false) → lab (rep i) ≡ lab (rep j) → differBy c i j ≡ false
     unfolding equationsOf
-    way-done none e = widerBy-table c fit i j hi hj (λ r. lab (rep r)) table ∙ go (followsBy (λ r. lab (rep r)) (differences c)) refl
+    way-done none e = differBy-table c fit i j hi hj (λ r. lab (rep r)) table ∙ go (followsBy (λ r. lab (rep r)) (differences c)) refl
       where
         alike : (r s : ℕ) → r < count → s < count → SameSymbol (c .rows) r s → SameArgs (c .rows) (λ x. lab (rep x)) r s → lab (rep r) ≡ lab (rep s)
         alike r s h l f g =

@@ -14,7 +14,7 @@ use mathlib.Core.Logic.{_⊎_}
 use Prim.Native.Nat.{ℕ, _+_, _*_, _<_, _≤_}
 use lib.ListN.{length}
 use Rattle.meaning.specs.ByTable.{apartBy}
-use Rattle.meaning.specs.Following.{widerBy}
+use Rattle.meaning.specs.Following.{differBy}
 use Rattle.runs.specs.Runs.{rowCount, contextOf}
 use Rattle.bits.specs.Sets.{has}
 use Rattle.search_pairs.specs.Ready.{wordsFor, mostWords, Ready}
@@ -34,7 +34,7 @@ pub record Memo (rows table sets known : List ℕ) : Type 0 where
   pub long : length known ≡ memoSize (rowCount rows)
   pub clear : (a b : ℕ) → a < rowCount rows → b < rowCount rows → knownAt (rowCount rows) known a b ≡ false → differsAt (rowCount rows) known a b ≡ false
   pub so : (said : List ℕ) → Ready rows said table sets → (a b : ℕ) → a < rowCount rows → b < rowCount rows → knownAt (rowCount rows) known a b ≡ true
-      → differsAt (rowCount rows) known a b ≡ widerBy (contextOf rows said) a b
+      → differsAt (rowCount rows) known a b ≡ differBy (contextOf rows said) a b
 
 abbrev pub isPair : ℕ → ℕ → ℕ → ℕ → Bool
 isPair x y a b = apartBy (λ v. v) ((x, y) ∷ []) a b

@@ -28,7 +28,7 @@ use Rattle.meaning.specs.Equality.{repAt}
 use Rattle.meaning.specs.Formed.{Ordered}
 use Rattle.meaning.specs.ByTable.{apartBy, sameList}
 use Rattle.meaning.specs.Closing.{Sofar, move, total}
-use Rattle.meaning.specs.Following.{widerBy}
+use Rattle.meaning.specs.Following.{differBy}
 use Rattle.runs.specs.Limits.{rowSize, argPlaces}
 use Rattle.runs.specs.Runs.{argsFrom, rowCount, countIn, rowsOf, contextOf}
 use Rattle.bits.specs.Sets.{has, size}
@@ -205,7 +205,7 @@ pub record Turned (rows table sets labels work labels′ work′ : List ℕ) (b 
       → Way (contextOf rows said) (repAt table) i j (repAt labels) (markedAt work) → b ≡ false
       → Way (contextOf rows said) (repAt table) i j (repAt labels′) (markedAt work′)
   pub wider : (said : List ℕ) (i j : ℕ) → Ready rows said table sets → i < rowCount rows → j < rowCount rows
-      → Way (contextOf rows said) (repAt table) i j (repAt labels) (markedAt work) → b ≡ true → widerBy (contextOf rows said) i j ≡ true
+      → Way (contextOf rows said) (repAt table) i j (repAt labels) (markedAt work) → b ≡ true → differBy (contextOf rows said) i j ≡ true
 
 -- two classes
 pub record Ends (n x y : ℕ) : Type 0 where
@@ -223,7 +223,7 @@ pub record Blank (n : ℕ) (labels work : List ℕ) : Type 0 where
 pub record Followed (rows table sets : List ℕ) (x y : ℕ) (labels work : List ℕ) (b : Bool) : Type 0 where
   pub space : Space (rowCount rows) labels work
   pub laid : Labelled (rowCount rows) labels work
-  pub so : (said : List ℕ) → Ready rows said table sets → repAt table x ≡ x → repAt table y ≡ y → b ≡ widerBy (contextOf rows said) x y
+  pub so : (said : List ℕ) → Ready rows said table sets → repAt table x ≡ x → repAt table y ≡ y → b ≡ differBy (contextOf rows said) x y
 
 -- each of n classes has its own label
 pub record Owned (n : ℕ) (labels labels′ : List ℕ) : Type 0 where
@@ -240,9 +240,9 @@ pub record Open (n : ℕ) (sets : List ℕ) (x y : ℕ) (b : Bool) : Type 0 wher
 -- of two classes
 pub record Settled (rows table sets : List ℕ) (x y : ℕ) (labels work : List ℕ) (b : Bool) : Type 0 where
   pub blank : Blank (rowCount rows) labels work
-  pub so : (said : List ℕ) → Ready rows said table sets → repAt table x ≡ x → repAt table y ≡ y → b ≡ widerBy (contextOf rows said) x y
+  pub so : (said : List ℕ) → Ready rows said table sets → repAt table x ≡ x → repAt table y ≡ y → b ≡ differBy (contextOf rows said) x y
 
 -- of any two numbers, for each context that the table and its sets are those of; labels and marks come back as they were
 pub record Asked (rows table sets : List ℕ) (x y : ℕ) (labels work : List ℕ) (b : Bool) : Type 0 where
   pub blank : Blank (rowCount rows) labels work
-  pub so : (said : List ℕ) → Ready rows said table sets → b ≡ widerBy (contextOf rows said) x y
+  pub so : (said : List ℕ) → Ready rows said table sets → b ≡ differBy (contextOf rows said) x y

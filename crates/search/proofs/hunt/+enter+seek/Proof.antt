@@ -5,7 +5,7 @@ use mathlib.Core.Path.{ap, refl, _∙_}
 use borrow.Author.Tests.{not-true, not-false}
 use Rattle.meaning.specs.Equality.{repAt}
 use Rattle.meaning.specs.Columns.{rowsFrom, patternsFrom, literalsFrom, contextFrom}
-use Rattle.meaning.specs.Following.{widerBy}
+use Rattle.meaning.specs.Following.{differBy}
 use Rattle.differing.specs.Knowing.{Knows}
 use Rattle.search.specs.Hunting.{stageOf, deadOf, rowsOf, attemptOf, huntOf, answerOf}
 use Rattle.search.proofs.Hunting.{Trying, trying-start, trying-found, trying-next, trying-done, enter-dead, enter-live, planned-listed, planned-rises, chosen-next, hunt-leaf, attempt-enter}
@@ -190,7 +190,7 @@ enter-returns : (t : ℕ) → enter-lts.Need-returns (
 enter-returns t c =
     let s = c .before .before .before .before .before .before .before .before .before .before .before in
     let a = s .args in
-    (c .clear .ensures ∙ ap answerOf (enter-dead (rowsFrom (a .symbols .now) (a .counts .now) (a .args .now) (a .rows)) (repAt (a .table .now)) (patternsFrom (a .shapes .now) (a .heads .now) (a .arities .now) (a .subs .now) (a .patterns)) (a .order .now) (a .ends .now) (widerBy (contextFrom (a .symbols .now) (a .counts .now) (a .args .now) (a .rows) (a .kinds .now) (a .lefts .now) (a .rights .now) (a .statements))) (a .levels .now) (literalsFrom (a .signs .now) (a .firsts .now) (a .seconds .now) (a .literals)) (rowsOf (repAt (a .table .now)) (a .rows) (a .free) (a .from)) _ (a .k) (a .chosen) (a .values .now) _ _ _ _ _ (c .before .before .before .before .before .before .before .before .before .before .wide8 .ensures) (c .before .before .before .before .before .before .before .before .wide82 .ensures) (c .before .before .before .before .before .before .wide83 .ensures) (c .before .before .before .before .before .read .ensures) (c .before .before .all-pass .ensures .0) (not-true _ (c .before .if1 .taken))), c .before .before .all-pass .ensures .1)
+    (c .clear .ensures ∙ ap answerOf (enter-dead (rowsFrom (a .symbols .now) (a .counts .now) (a .args .now) (a .rows)) (repAt (a .table .now)) (patternsFrom (a .shapes .now) (a .heads .now) (a .arities .now) (a .subs .now) (a .patterns)) (a .order .now) (a .ends .now) (differBy (contextFrom (a .symbols .now) (a .counts .now) (a .args .now) (a .rows) (a .kinds .now) (a .lefts .now) (a .rights .now) (a .statements))) (a .levels .now) (literalsFrom (a .signs .now) (a .firsts .now) (a .seconds .now) (a .literals)) (rowsOf (repAt (a .table .now)) (a .rows) (a .free) (a .from)) _ (a .k) (a .chosen) (a .values .now) _ _ _ _ _ (c .before .before .before .before .before .before .before .before .before .before .wide8 .ensures) (c .before .before .before .before .before .before .before .before .wide82 .ensures) (c .before .before .before .before .before .before .wide83 .ensures) (c .before .before .before .before .before .read .ensures) (c .before .before .all-pass .ensures .0) (not-true _ (c .before .if1 .taken))), c .before .before .all-pass .ensures .1)
 
 enter-seek-requires : (t : ℕ) → enter-lts.Need-seek-requires (
   wide8-reads.Asked,
@@ -223,13 +223,13 @@ enter-returns-2 : (t : ℕ) → enter-lts.Need-returns-2 (
 enter-returns-2 t c =
     let s = c .before .before .before .before .before .before .before .before .before .before .before .before .before in
     let a = s .args in
-    (c .seek .ensures .0 ∙ ap answerOf (enter-live (rowsFrom (a .symbols .now) (a .counts .now) (a .args .now) (a .rows)) (repAt (a .table .now)) (patternsFrom (a .shapes .now) (a .heads .now) (a .arities .now) (a .subs .now) (a .patterns)) (a .order .now) (a .ends .now) (widerBy (contextFrom (a .symbols .now) (a .counts .now) (a .args .now) (a .rows) (a .kinds .now) (a .lefts .now) (a .rights .now) (a .statements))) (a .levels .now) (literalsFrom (a .signs .now) (a .firsts .now) (a .seconds .now) (a .literals)) (rowsOf (repAt (a .table .now)) (a .rows) (a .free) (a .from)) _ (a .k) (a .chosen) (a .values .now) _ _ _ _ _ (c .before .before .before .before .before .before .before .before .before .before .before .before .wide8 .ensures) (c .before .before .before .before .before .before .before .before .before .before .wide82 .ensures) (c .before .before .before .before .before .before .before .before .wide83 .ensures) (c .before .before .before .before .before .before .before .read .ensures) (c .before .before .before .before .all-pass .ensures .0) (not-false _ (c .before .before .before .if1 .left))), c .seek .ensures .1)
+    (c .seek .ensures .0 ∙ ap answerOf (enter-live (rowsFrom (a .symbols .now) (a .counts .now) (a .args .now) (a .rows)) (repAt (a .table .now)) (patternsFrom (a .shapes .now) (a .heads .now) (a .arities .now) (a .subs .now) (a .patterns)) (a .order .now) (a .ends .now) (differBy (contextFrom (a .symbols .now) (a .counts .now) (a .args .now) (a .rows) (a .kinds .now) (a .lefts .now) (a .rights .now) (a .statements))) (a .levels .now) (literalsFrom (a .signs .now) (a .firsts .now) (a .seconds .now) (a .literals)) (rowsOf (repAt (a .table .now)) (a .rows) (a .free) (a .from)) _ (a .k) (a .chosen) (a .values .now) _ _ _ _ _ (c .before .before .before .before .before .before .before .before .before .before .before .before .wide8 .ensures) (c .before .before .before .before .before .before .before .before .before .before .wide82 .ensures) (c .before .before .before .before .before .before .before .before .wide83 .ensures) (c .before .before .before .before .before .before .before .read .ensures) (c .before .before .before .before .all-pass .ensures .0) (not-false _ (c .before .before .before .if1 .left))), c .seek .ensures .1)
 
 abbrev seek-Inv-loop : seek-lts.InvT-loop
 seek-Inv-loop symbols counts args rows kinds lefts rights statements table closed busy known₀ first next shapes heads arities subs patterns levels order ends signs firsts seconds literals variables from k chosen values free alone i₀ known i =
     (k < variables)
     × Knows (contextFrom symbols counts args rows kinds lefts rights statements) known
-    × Trying (repAt table) rows (attemptOf (stageOf (rowsFrom symbols counts args rows) (repAt table) (patternsFrom shapes heads arities subs patterns) order ends) (deadOf (widerBy (contextFrom symbols counts args rows kinds lefts rights statements)) levels (literalsFrom signs firsts seconds literals)) (huntOf (stageOf (rowsFrom symbols counts args rows) (repAt table) (patternsFrom shapes heads arities subs patterns) order ends) (deadOf (widerBy (contextFrom symbols counts args rows kinds lefts rights statements)) levels (literalsFrom signs firsts seconds literals)) (rowsOf (repAt table) rows free from) (variables - (k + 1)) (k + 1)) k chosen values) alone (huntOf (stageOf (rowsFrom symbols counts args rows) (repAt table) (patternsFrom shapes heads arities subs patterns) order ends) (deadOf (widerBy (contextFrom symbols counts args rows kinds lefts rights statements)) levels (literalsFrom signs firsts seconds literals)) (rowsOf (repAt table) rows free from) (variables - k) k chosen values) i
+    × Trying (repAt table) rows (attemptOf (stageOf (rowsFrom symbols counts args rows) (repAt table) (patternsFrom shapes heads arities subs patterns) order ends) (deadOf (differBy (contextFrom symbols counts args rows kinds lefts rights statements)) levels (literalsFrom signs firsts seconds literals)) (huntOf (stageOf (rowsFrom symbols counts args rows) (repAt table) (patternsFrom shapes heads arities subs patterns) order ends) (deadOf (differBy (contextFrom symbols counts args rows kinds lefts rights statements)) levels (literalsFrom signs firsts seconds literals)) (rowsOf (repAt table) rows free from) (variables - (k + 1)) (k + 1)) k chosen values) alone (huntOf (stageOf (rowsFrom symbols counts args rows) (repAt table) (patternsFrom shapes heads arities subs patterns) order ends) (deadOf (differBy (contextFrom symbols counts args rows kinds lefts rights statements)) levels (literalsFrom signs firsts seconds literals)) (rowsOf (repAt table) rows free from) (variables - k) k chosen values) i
 
 abbrev seek-μ-loop : seek-lts.MeasureT-loop
 seek-μ-loop symbols counts args rows kinds lefts rights statements table closed busy known₀ first next shapes heads arities subs patterns levels order ends signs firsts seconds literals variables from k chosen values free alone i₀ known i =

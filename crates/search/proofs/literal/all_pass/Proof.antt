@@ -6,7 +6,7 @@ use mathlib.Core.Path.{_≡_, sym, _∙_}
 use lib.ListN.{getD}
 use borrow.Author.Tests.{not-true, not-false}
 use Rattle.meaning.specs.Columns.{literalOf, contextFrom}
-use Rattle.meaning.specs.Following.{widerBy}
+use Rattle.meaning.specs.Following.{differBy}
 use Rattle.differing.specs.Knowing.{Knows}
 use Rattle.meaning.specs.Pruning.{due}
 use Rattle.columns.specs.Fit.{Every}
@@ -21,7 +21,7 @@ use Rattle.search.proofs.literal.all_pass.Tie as tie
 abbrev Inv-loop : tie.InvT-loop
 Inv-loop symbols counts args rows kinds lefts rights statements closed busy known₀ levels signs firsts seconds literals level values l₀ known l =
     Knows (contextFrom symbols counts args rows kinds lefts rights statements) known
-    × Every l (λ i. passesOf (widerBy (contextFrom symbols counts args rows kinds lefts rights statements)) (due level levels) values (literalOf (getD signs i 0) (getD firsts i 0) (getD seconds i 0)) ≡ true)
+    × Every l (λ i. passesOf (differBy (contextFrom symbols counts args rows kinds lefts rights statements)) (due level levels) values (literalOf (getD signs i 0) (getD firsts i 0) (getD seconds i 0)) ≡ true)
 
 abbrev μ-loop : tie.MeasureT-loop
 μ-loop symbols counts args rows kinds lefts rights statements closed busy known₀ levels signs firsts seconds literals level values l₀ known l = literals - l
