@@ -5,6 +5,7 @@
 --     TermFit, WalkFit, Walked    a row that is read or is the next; some of its arguments; their values
 --     stateOf                     the values so far and the rows read so far
 --     lookOf, termOf, readOf      the value of a symbol over values, of one row, and the values after some rows of the order
+--     lookIn, readIn              the same by the runs that are lent
 -- Assumes nothing.
 use mathlib.Core.Bool.{true, false}
 use mathlib.Core.List.{List, _∷_, _++_}
@@ -15,9 +16,10 @@ use lib.ListN.{length, getD, take, drop}
 use lib.Seq.{slice}
 use Rattle.meaning.specs.Context.{Row}
 use Rattle.meaning.specs.Rules.{Pattern}
+use Rattle.meaning.specs.Equality.{repAt}
 use Rattle.meaning.specs.Values.{patternAt, argsOf, held, met, Numbering, numberOf, number}
 use Rattle.runs.specs.Limits.{mostPatterns, mostVariables, patternSize}
-use Rattle.runs.specs.Runs.{patternCount, patternKindIn, headIn, patternCountIn, patternArgsIn}
+use Rattle.runs.specs.Runs.{rowsOf, patternCount, patternKindIn, headIn, patternCountIn, patternArgsIn, patternsOf}
 use Rattle.runs.specs.Fit.{PlacedAt}
 use Rattle.search_plan.specs.Steps.{RuleFit}
 use Rattle.search_values.specs.Lookup.{LedgerFit}
@@ -83,3 +85,14 @@ module _ (rows : List Row) (rep : ℕ → ℕ) (ps : List Pattern) (order chosen
 
   unfoldable pub readOf : ℕ → ℕ → List ℕ
   readOf from to = number rows rep 65536 ps chosen (stateOf values order from) (slice from to order) .numbers
+
+-- ---- by runs
+
+-- over the first values that are wanted, as many as the row counts
+abbrev pub lookIn : List ℕ → List ℕ → List ℕ → ℕ → List ℕ → List ℕ → List ℕ → ℕ → ℕ
+lookIn rows table patterns row wanted values order read =
+    lookOf (rowsOf rows) (repAt table) (patternsOf patterns) (headIn patterns row) (take (patternCountIn patterns row) wanted) values (take read order) row
+
+-- from a place of the order to its end
+abbrev pub readIn : List ℕ → List ℕ → List ℕ → List ℕ → List ℕ → List ℕ → ℕ → List ℕ
+readIn rows table patterns order chosen values from = readOf (rowsOf rows) (repAt table) (patternsOf patterns) order chosen values from (length order)

@@ -8,10 +8,9 @@ use terms::value_at;
 ghost use mathlib.Core.Path.{_≡_};
 ghost use Prim.Native.Nat.{_≤_};
 ghost use lib.ListN.{length};
-ghost use Rattle.meaning.specs.Equality.{repAt};
-ghost use Rattle.runs.specs.Runs.{rowCount, rowsOf, patternsOf};
+ghost use Rattle.runs.specs.Runs.{rowCount};
 ghost use Rattle.search_values.specs.Index.{keyBase, rowKeys, IndexFit, Indexed};
-ghost use Rattle.search_values.specs.Reading.{Asked, readOf};
+ghost use Rattle.search_values.specs.Reading.{Asked, readIn};
 
 mod keys;
 mod lookup;
@@ -52,7 +51,7 @@ pub fn read(
     values: &mut [u32],
 )
     requires { ⌜ Asked (now rows) (now table) (now keys) (now patterns) (now order) (length (now order)) (length (now values)) ⌝ }
-    ensures { λ _. ⌜ now (values .exit) ≡ readOf (rowsOf (now (rows .entry))) (repAt (now (table .entry))) (patternsOf (now (patterns .entry))) (now (order .entry)) chosen (now (values .entry)) from (length (now (order .entry))) ⌝ }
+    ensures { λ _. ⌜ now (values .exit) ≡ readIn (now (rows .entry)) (now (table .entry)) (now (patterns .entry)) (now (order .entry)) chosen (now (values .entry)) from ⌝ }
 {
     let n = order.len();
     let mut j = from;

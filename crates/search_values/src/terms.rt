@@ -22,7 +22,7 @@ ghost use Rattle.meaning.specs.Values.{numberAt, argsOf, isOver, met as metBy};
 ghost use Rattle.runs.specs.Limits.{mostPatterns, argPlaces};
 ghost use Rattle.runs.specs.Runs.{rowsOf, patternCount, headIn, patternCountIn, patternArgIn, patternArgsIn, patternIn, patternsOf};
 ghost use Rattle.search_plan.specs.Steps.{RowFit as PatternFit, ArgsFit};
-ghost use Rattle.search_values.specs.Reading.{ReadFit, SymbolFit, VariableFit, ArgOf, TermFit, WalkFit, Walked, Asked, lookOf, termOf};
+ghost use Rattle.search_values.specs.Reading.{ReadFit, SymbolFit, VariableFit, ArgOf, TermFit, WalkFit, Walked, Asked, lookIn, termOf};
 
 // The value of a term outside the table that row is the first to have.
 fn own(row: usize) -> u32
@@ -147,7 +147,7 @@ fn look(
 ) -> u32
     requires { ⌜ Asked (now rows) (now table) (now keys) (now patterns) (now order) read (length (now values)) ⌝ }
     requires { ⌜ SymbolFit (now patterns) row ⌝ }
-    ensures { λ r. ⌜ r ≡ lookOf (rowsOf (now (rows .entry))) (repAt (now (table .entry))) (patternsOf (now (patterns .entry))) (headIn (now (patterns .entry)) row) (take (patternCountIn (now (patterns .entry)) row) wanted) (now (values .entry)) (take read (now (order .entry))) row ⌝ }
+    ensures { λ r. ⌜ r ≡ lookIn (now (rows .entry)) (now (table .entry)) (now (patterns .entry)) row wanted (now (values .entry)) (now (order .entry)) read ⌝ }
 {
     let f = head_in(patterns, row);
     let n = pattern_count_in(patterns, row);
