@@ -1,11 +1,12 @@
 -- The keys of rows, written and sorted.
 --     key-one, key-in, in-key     a row has one key, no other row has it, and each key is that of a row
 --     Filling                     the keys of the first rows are written
+--     indexed-one                 the keys of rows are fixed
 --     mine                        what the functions that write and sort keys leave to show
 -- Assumes nothing.
 use mathlib.Core.List.{List, [], _∷_}
 use mathlib.Core.Logic.{inl, inr, ⊎-elim}
-use mathlib.Core.Path.{_≡_, refl, sym, ap, _∙_, subst}
+use mathlib.Core.Path.{_≡_, refl, sym, ap, ap₂, _∙_, subst}
 use Prim.Native.Nat.{ℕ, zero, suc, _+_, _≤_, _<_}
 use native.Mathlib.Omega.{arith}
 use native.Mathlib.Numerals.{add-one}
@@ -16,7 +17,7 @@ use Rattle.meaning.specs.Members.{In}
 use Rattle.meaning.proofs.Sorted.{in-at, in-place}
 use Rattle.runs.specs.Runs.{each, rowCount}
 use Rattle.runs.proofs.Saying.{each-length, each-at}
-use Rattle.sorting.specs.Sorting.{Sorts, SortedIn}
+use Rattle.sorting.specs.Sorting.{Rising, Sorts, SortedIn}
 use Rattle.search_values.specs.Index.{keyBase, rowKey, rowKeys, IndexFit, Indexed}
 
 -- two rows with one key are one row
@@ -125,5 +126,28 @@ index-done rows given after n places spare h e s l = record { few = h .few; sort
 
     whole : take n after ≡ after
     whole = take-all n after (omega (arith, all, length-take n after, size, l))
+
+-- ---- the keys are fixed
+
+-- rising lists with the same members are one list
+rising-one : (l m : List ℕ) → Rising l → Rising m → ((x : ℕ) → In x l → In x m) → ((x : ℕ) → In x m → In x l) → l ≡ m
+rising-one [] [] r s to of = refl
+rising-one [] (y ∷ m) r s to of = absurd (of y (inl refl))
+rising-one (x ∷ l) [] r s to of = absurd (to x (inl refl))
+rising-one (x ∷ l) (y ∷ m) r s to of =
+    ap₂ _∷_ same
+    (rising-one l m (r .1) (s .1) (λ z i. behind z (r .0 z i) (to z (inr i)))
+    (λ z i. ⊎-elim (λ e. absurd (omega (arith, s .0 z i, same))) (λ j. j) (of z (inr i))))
+  where
+    same : x ≡ y
+    same = ⊎-elim (λ e. e) (λ i. ⊎-elim (λ e. sym e) (λ j. absurd (omega (arith, s .0 x i, r .0 y j))) (of y (inl refl))) (to x (inl refl))
+
+    behind : (z : ℕ) → x < z → In z (y ∷ m) → In z m
+    behind z h i = ⊎-elim (λ e. absurd (omega (arith, same))) (λ j. j) i
+
+pub indexed-one : (rows keys others : List ℕ) → Indexed rows keys → Indexed rows others → keys ≡ others
+indexed-one rows keys others a b =
+    rising-one keys others (a .sorts .rising) (b .sorts .rising) (λ x i. b .sorts .same x .1 (a .sorts .same x .0 i))
+    (λ x i. a .sorts .same x .1 (b .sorts .same x .0 i))
 
 pub ruleset mine = (needs, filling-start, filling-inside, filling-low, filling-room, filling-step, filling-done, index-done)
