@@ -1,0 +1,30 @@
+-- What the steps are made of: words written, and flags.
+--     Copied       n words from one place at another
+--     Flagged      a word with one bit as told
+--     Told         row p's words count, and whether it may lie outside is as told
+-- Assumes nothing.
+use mathlib.Core.Bool.{Bool, true, false}
+use mathlib.Core.List.{List}
+use mathlib.Core.Path.{_≡_}
+use mathlib.Core.Logic.{_⊎_}
+use Prim.Native.Nat.{ℕ, _+_, _≤_, _<_}
+use lib.Dec.{eqb}
+use lib.ListN.{length, getD}
+use Rattle.bits.specs.Sets.{bitAt}
+
+-- the words from b on stand from a on too
+pub record Copied (old new : List ℕ) (a b n : ℕ) : Type 0 where
+  pub long : length new ≡ length old
+  pub words : (j : ℕ) → j < n → getD new (a + j) 0 ≡ getD old (b + j) 0
+  pub others : (j : ℕ) → (j < a) ⊎ (a + n ≤ j) → getD new j 0 ≡ getD old j 0
+
+pub record Flagged (x p : ℕ) (on : Bool) (r : ℕ) : Type 0 where
+  pub here : bitAt r p ≡ on
+  pub others : (q : ℕ) → eqb q p ≡ false → bitAt r q ≡ bitAt x q
+
+-- `at` is the word of the rows that are known; the flags of those outside stand next
+pub record Told (old new : List ℕ) (at p : ℕ) (out : Bool) : Type 0 where
+  pub long : length new ≡ length old
+  pub known : Flagged (getD old at 0) p true (getD new at 0)
+  pub outside : Flagged (getD old (at + 1) 0) p out (getD new (at + 1) 0)
+  pub others : (j : ℕ) → j < at → getD new j 0 ≡ getD old j 0

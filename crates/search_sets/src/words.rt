@@ -1,0 +1,49 @@
+// Words written and flags, in the run of a search's sets.
+ghost use mathlib.Core.Path.{_≡_};
+ghost use Prim.Native.Nat.{_+_, _*_, _<_, _≤_};
+ghost use lib.ListN.{length};
+ghost use Rattle.bits.specs.Sets.{Places};
+ghost use Rattle.search_sets.specs.Places.{mostWords};
+ghost use Rattle.search_sets.specs.Words.{Copied, Flagged, Told};
+
+// Where the words of set q begin: the pattern rows' sets stand first, then the variables', then the flags.
+pub(crate) fn set_at(width: usize, q: usize) -> usize
+    requires { ⌜ (width ≤ mostWords) × (q < 69) ⌝ }
+    ensures { λ r. ⌜ r ≡ q * width ⌝ }
+{
+    q * width
+}
+
+// The n words from b on are written from a on.
+pub(crate) fn copy(words: &mut [u64], a: usize, b: usize, n: usize)
+    requires { ⌜ Places (length (now words)) a b n ⌝ }
+    ensures { λ _. ⌜ Copied (now (words .entry)) (now (words .exit)) a b n ⌝ }
+{
+    let mut i: usize = 0;
+    while i < n {
+        words[a + i] = words[b + i];
+        i += 1;
+    }
+}
+
+// A word with bit p as told.
+pub(crate) fn flagged(x: u64, p: usize, on: bool) -> u64
+    requires { ⌜ p < 64 ⌝ }
+    ensures { λ r. ⌜ Flagged x p on r ⌝ }
+{
+    let with = x | (1 << p);
+    if on {
+        return with;
+    }
+    with ^ (1 << p)
+}
+
+// Row p is known, and may lie outside as told.
+pub(crate) fn tell(words: &mut [u64], at: usize, p: usize, out: bool)
+    requires { ⌜ (at + 1 < length (now words)) × (p < 64) ⌝ }
+    ensures { λ _. ⌜ Told (now (words .entry)) (now (words .exit)) at p out ⌝ }
+{
+    words[at] = flagged(words[at], p, true);
+    let next = at + 1;
+    words[next] = flagged(words[next], p, out);
+}
