@@ -4,6 +4,7 @@
 --     changed-then                   one after the other
 --     set-fits, sets-apart           where a set stands; two sets
 --     possible-wider                 a run that says more is possible allows as much
+--     row-anew, row-number, row-none    a row's words written anew; the number of a row that is known, which has something left
 --     put-allows, sift-allows        it allows what a row put anew, or a variable's candidates cut, allows
 -- Assumes nothing.
 use mathlib.Core.Bool.{Bool, true, false, not, _&&_, _||_}
@@ -18,15 +19,15 @@ use borrow.Author.Tests.{eqb-true, eqb-false, ne-eqb, ltb-true, ltb-false}
 use lib.ListN.{length, getD, drop}
 use lib.Seq.{getD-drop}
 use Rattle.meaning.specs.Values.{numberAt, numbers}
-use Rattle.meaning.proofs.Logic.{and-true-left, and-true-right, or-right}
+use Rattle.meaning.proofs.Logic.{and-true-left, and-true-right, or-right, false-true}
 use Rattle.meaning.proofs.Pruned.{Sought}
 use Rattle.bits.specs.Sets.{bitAt, has}
 use Rattle.runs.specs.Limits.{mostVariables}
 use Rattle.matching.specs.Possible.{Possible, setAt, put, sift}
 use Rattle.matching.specs.InWords.{possibleOf}
-use Rattle.matching.specs.Sound.{AllowsBy}
+use Rattle.matching.specs.Sound.{In, AllowsBy}
 use Rattle.matching.proofs.Sets.{set-same, set-other}
-use Rattle.matching.proofs.Allows.{allows-wider}
+use Rattle.matching.proofs.Allows.{allows-put, allows-wider}
 use Rattle.matching.proofs.Pruning.{told}
 use Rattle.search_sets.specs.Places.{knownAt, outsideAt, possibleIn}
 use Rattle.search_sets.specs.Keeps.{Setting, Fits}
@@ -145,6 +146,37 @@ module _ (s : Setting) (count width : ℕ) (h : Fits count width s) (a : List �
           let z : r ≡ p = eqb-true r p e in
           or-right (not (known r)) (bitAt (getD new (outsideAt count width) 0) r) (rw z (flag (sym (set-same p out (P .outside) r e) ∙ t)))
       free r false e t = ap₂ (λ (i j : Bool). not i || j) (c .known r e) (c .outside r e) ∙ sym (set-other p out (P .outside) r e) ∙ t
+
+  abbrev pub num : ℕ → ℕ
+  num p = numberAt (numbers (s .rows) (s .rep) (s .offset) (s .rule .patterns) a) p
+
+  -- row p anew, where its number is in the new set
+  pub row-anew : (p : ℕ) (set : ℕ → Bool) (out : Bool) (old new : List ℕ) → p < count → Changed count width old new p
+      → ((x : ℕ) → x < s .bound → set x ≡ true → has new (p * width) x ≡ true) → (out ≡ true → bitAt (getD new (outsideAt count width) 0) p ≡ true)
+      → In (s .bound) (s .offset) set out (num p) → Allowed (possibleIn count width old) → Allowed (possibleIn count width new)
+  row-anew p set out old new l c row flag i w =
+      put-allows p set out old new l c row flag
+      (allows-put (s .bound) (s .offset) (length (s .rule .patterns)) a (numbers (s .rows) (s .rep) (s .offset) (s .rule .patterns) a) p set out (possibleIn count width old) (λ _. i) w)
+
+  -- the number of a row that is known
+  pub row-number : (p : ℕ) (sets : List ℕ) → p < count → bitAt (getD sets (knownAt count width) 0) p ≡ true → Allowed (possibleIn count width sets)
+      → In (s .bound) (s .offset) (has sets (p * width)) (bitAt (getD sets (outsideAt count width) 0) p) (num p)
+  unfolding possibleIn possibleOf
+  row-number p sets l k w = go (w .rows p (omega (arith, h .counted)))
+    where
+      go : In (s .bound) (s .offset) (possibleIn count width sets .classes p) (possibleIn count width sets .outside p) (num p)
+          → In (s .bound) (s .offset) (has sets (p * width)) (bitAt (getD sets (outsideAt count width) 0) p) (num p)
+      go (inl u) = inl (u .0, sym (rw k refl) ∙ u .1)
+      go (inr u) = inr (u .0, sym (rw k refl) ∙ u .1)
+
+  -- such a row has something left
+  pub row-none : (p : ℕ) (sets : List ℕ) → p < count → bitAt (getD sets (knownAt count width) 0) p ≡ true → bitAt (getD sets (outsideAt count width) 0) p ≡ false
+      → ((x : ℕ) → x < width * 64 → has sets (p * width) x ≡ false) → Allowed (possibleIn count width sets) → ⊥
+  row-none p sets l k o f w = go (row-number p sets l k w)
+    where
+      go : In (s .bound) (s .offset) (has sets (p * width)) (bitAt (getD sets (outsideAt count width) 0) p) (num p) → ⊥
+      go (inl u) = false-true (u .1) (f (num p) (omega (arith, u .0, h .within)))
+      go (inr u) = false-true (u .1) o
 
   pub sift-allows : (v : ℕ) (set : ℕ → Bool) (old new : List ℕ) → v < mostVariables → Changed count width old new (count + v)
       → ((x : ℕ) → x < s .bound → has old ((count + v) * width) x ≡ true → set x ≡ true → has new ((count + v) * width) x ≡ true)

@@ -8,15 +8,15 @@ use Prim.Native.Nat.{ℕ, _+_, _*_, _^_, _%_, _≤_, _<_}
 use native.Mathlib.Nat.{mul-le-mul}
 use native.Mathlib.Omega.{arith}
 use borrow.Author.Needs.{needs}
-use borrow.Author.Tests.{eqb-true, eqb-false, eq-eqb}
+use borrow.Author.Tests.{eqb-true, eqb-false, eq-eqb, ltb-false}
 use lib.Bits.{bitOr, bitXor}
-use lib.Dec.{eqb}
+use lib.Dec.{eqb, ltb}
 use lib.ListN.{length, getD, set, length-set}
 use lib.Seq.{getD-set-same, getD-set-other}
-use Rattle.bits.specs.Sets.{bitAt, Places}
+use Rattle.bits.specs.Sets.{bitAt, Places, Low}
 use Rattle.bits.proofs.Words.{or-has, without-has, only-has}
 use Rattle.search_sets.specs.Places.{mostWords}
-use Rattle.search_sets.specs.Words.{Copied, Flagged, Told}
+use Rattle.search_sets.specs.Words.{Copied, Flagged, Told, Left}
 
 pub set-small : (width q : ℕ) → width ≤ mostWords → q < 69 → q * width < 2 ^ 64
 set-small width q h l = let l′ : q ≤ 69 = omega arith in let m : q * width ≤ 69 * 16 = mul-le-mul l′ h in omega (arith, m)
@@ -111,4 +111,15 @@ told-both old at p v w out h k o =
       others = λ j l. getD-set-other (set old at v) (at + 1) j w 0 (λ z. omega arith) ∙ getD-set-other old at j v 0 (λ z. omega arith);
     }
 
-pub ruleset mine = (needs, set-small, copied-start, copied-turn, copied-end, flag-on, flag-off, told-both)
+-- ---- flags and sets read
+
+pub both-first : (m x y : Bool) → m ≡ false → m ≡ x → false ≡ (x && y)
+both-first m x y e f = rw (sym f ∙ e) refl
+
+pub both-second : (m x y r : Bool) → m ≡ true → m ≡ x → r ≡ y → r ≡ (x && y)
+both-second m x y r e f g = g ∙ sym (rw (sym f ∙ e) refl)
+
+pub left-low : (ws : List ℕ) (base n r : ℕ) → Low ws base n r → Left ws base n (ltb r (n * 64))
+left-low ws base n r l = record { none = λ e x h. l .first x (omega (arith, ltb-false r (n * 64) e)) }
+
+pub ruleset mine = (needs, both-first, both-second, left-low, set-small, copied-start, copied-turn, copied-end, flag-on, flag-off, told-both)

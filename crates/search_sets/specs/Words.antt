@@ -2,15 +2,16 @@
 --     Copied       n words from one place at another
 --     Flagged      a word with one bit as told
 --     Told         row p's words count, and whether it may lie outside is as told
+--     Left         whether a set has a member
 -- Assumes nothing.
 use mathlib.Core.Bool.{Bool, true, false}
 use mathlib.Core.List.{List}
 use mathlib.Core.Path.{_≡_}
 use mathlib.Core.Logic.{_⊎_}
-use Prim.Native.Nat.{ℕ, _+_, _≤_, _<_}
+use Prim.Native.Nat.{ℕ, _+_, _*_, _≤_, _<_}
 use lib.Dec.{eqb}
 use lib.ListN.{length, getD}
-use Rattle.bits.specs.Sets.{bitAt}
+use Rattle.bits.specs.Sets.{bitAt, has}
 
 -- the words from b on stand from a on too
 pub record Copied (old new : List ℕ) (a b n : ℕ) : Type 0 where
@@ -28,3 +29,7 @@ pub record Told (old new : List ℕ) (at p : ℕ) (out : Bool) : Type 0 where
   pub known : Flagged (getD old at 0) p true (getD new at 0)
   pub outside : Flagged (getD old (at + 1) 0) p out (getD new (at + 1) 0)
   pub others : (j : ℕ) → j < at → getD new j 0 ≡ getD old j 0
+
+-- no member where the answer is no
+pub record Left (sets : List ℕ) (base n : ℕ) (some : Bool) : Type 0 where
+  pub none : some ≡ false → (x : ℕ) → x < n * 64 → has sets base x ≡ false

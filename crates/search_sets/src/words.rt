@@ -1,10 +1,13 @@
 // Words written and flags, in the run of a search's sets.
+use bits::bit;
+use bits::lowest;
+ghost use mathlib.Core.Bool.{_&&_};
 ghost use mathlib.Core.Path.{_≡_};
 ghost use Prim.Native.Nat.{_+_, _*_, _<_, _≤_};
-ghost use lib.ListN.{length};
-ghost use Rattle.bits.specs.Sets.{Places};
+ghost use lib.ListN.{length, getD};
+ghost use Rattle.bits.specs.Sets.{bitAt, Places};
 ghost use Rattle.search_sets.specs.Places.{mostWords};
-ghost use Rattle.search_sets.specs.Words.{Copied, Flagged, Told};
+ghost use Rattle.search_sets.specs.Words.{Copied, Flagged, Told, Left};
 
 // Where the words of set q begin: the pattern rows' sets stand first, then the variables', then the flags.
 pub(crate) fn set_at(width: usize, q: usize) -> usize
@@ -46,4 +49,31 @@ pub(crate) fn tell(words: &mut [u64], at: usize, p: usize, out: bool)
     words[at] = flagged(words[at], p, true);
     let next = at + 1;
     words[next] = flagged(words[next], p, out);
+}
+
+// Whether row p has a flag.
+pub(crate) fn marked(words: &[u64], at: usize, p: usize) -> bool
+    requires { ⌜ (at < length (now words)) × (p < 64) ⌝ }
+    ensures { λ r. ⌜ r ≡ bitAt (getD (now (words .entry)) at 0) p ⌝ }
+{
+    bit(words[at], p)
+}
+
+// Whether two rows have it.
+pub(crate) fn both_marked(words: &[u64], at: usize, p: usize, q: usize) -> bool
+    requires { ⌜ (at < length (now words)) × (p < 64) × (q < 64) ⌝ }
+    ensures { λ r. ⌜ r ≡ (bitAt (getD (now (words .entry)) at 0) p && bitAt (getD (now (words .entry)) at 0) q) ⌝ }
+{
+    if marked(words, at, p) {
+        return marked(words, at, q);
+    }
+    false
+}
+
+// Whether n words have a member.
+pub(crate) fn some(words: &[u64], base: usize, n: usize) -> bool
+    requires { ⌜ (base + n ≤ length (now words)) × (n ≤ mostWords) ⌝ }
+    ensures { λ r. ⌜ Left (now (words .entry)) base n r ⌝ }
+{
+    lowest(words, base, n) < n * 64
 }
