@@ -1,6 +1,6 @@
 -- A run in which one set and its flags are other than they were, and what it allows.
 --     Changed                        only set q, and bit q of the two words of flags
---     changed-region, changed-told   by words written; by flags written
+--     changed-region, changed-told, changed-narrowed   by words written; by flags written; by both
 --     changed-then                   one after the other
 --     set-fits, sets-apart           where a set stands; two sets
 --     possible-wider                 a run that says more is possible allows as much
@@ -31,12 +31,22 @@ use Rattle.matching.proofs.Allows.{allows-put, allows-wider}
 use Rattle.matching.proofs.Pruning.{told}
 use Rattle.search_sets.specs.Places.{knownAt, outsideAt, possibleIn}
 use Rattle.search_sets.specs.Keeps.{Setting, Fits}
-use Rattle.search_sets.specs.Words.{Told}
+use Rattle.search_sets.specs.Words.{Told, Narrowed}
 
 -- ---- where sets stand
 
 pub sets-apart : (width q r : ℕ) → q < r → q * width + width ≤ r * width
 sets-apart width q r h = let m : suc q * width ≤ r * width = mul-le-mul-right width h in omega (arith, suc-mul q width)
+
+-- a word of another set
+pub sides-apart : (width p q : ℕ) → eqb q p ≡ false → (j : ℕ) → j < width → (q * width + j < p * width) ⊎ (p * width + width ≤ q * width + j)
+sides-apart width p q e j m = side (ltb q p) refl
+  where
+    side : (b : Bool) → ltb q p ≡ b → (q * width + j < p * width) ⊎ (p * width + width ≤ q * width + j)
+    side true z = inl (omega (arith, sets-apart width q p (ltb-true q p z)))
+    side false z =
+        let k : p < q = omega (arith, ltb-false q p z, eqb-false q p e) in
+        inr (omega (arith, sets-apart width p q k))
 
 -- the sets of the rows come first, then those of the variables
 pub record Changed (count width : ℕ) (old new : List ℕ) (p : ℕ) : Type 0 where
@@ -59,22 +69,26 @@ pub changed-region : (count width : ℕ) (old new : List ℕ) (p : ℕ) → p < 
 changed-region count width old new p h l f =
     record {
       long = l;
-      words = λ q k e j m. f (q * width + j) (side q e j m (ltb q p) refl);
+      words = λ q k e j m. f (q * width + j) (sides-apart width p q e j m);
       known = λ q e. ap (λ (w : ℕ). bitAt w q) (f (knownAt count width) (inr (sets-apart width p (count + mostVariables) h)));
       outside = λ q e. ap (λ (w : ℕ). bitAt w q) (f (outsideAt count width) (inr (omega (arith, sets-apart width p (count + mostVariables) h))));
     }
-  where
-    side : (q : ℕ) → eqb q p ≡ false → (j : ℕ) → j < width → (b : Bool) → ltb q p ≡ b → (q * width + j < p * width) ⊎ (p * width + width ≤ q * width + j)
-    side q e j m true z = inl (omega (arith, sets-apart width q p (ltb-true q p z)))
-    side q e j m false z =
-        let k : p < q = omega (arith, ltb-false q p z, eqb-false q p e) in
-        inr (omega (arith, sets-apart width p q k))
 
 pub changed-told : (count width : ℕ) (old new : List ℕ) (p : ℕ) (out : Bool) → Told old new (knownAt count width) p out → Changed count width old new p
 changed-told count width old new p out t =
     record {
       long = t .long;
       words = λ q h e j m. t .others (q * width + j) (omega (arith, sets-apart width q (count + mostVariables) h));
+      known = λ q e. t .known .others q e;
+      outside = λ q e. t .outside .others q e;
+    }
+
+pub changed-narrowed : (count width : ℕ) (old new : List ℕ) (p b : ℕ) (out : Bool) → p < count → Narrowed old new (knownAt count width) (p * width) b width p out
+    → Changed count width old new p
+changed-narrowed count width old new p b out h t =
+    record {
+      long = t .long;
+      words = λ q l e j m. t .others (q * width + j) (omega (arith, sets-apart width q (count + mostVariables) l)) (sides-apart width p q e j m);
       known = λ q e. t .known .others q e;
       outside = λ q e. t .outside .others q e;
     }

@@ -1,3 +1,4 @@
 pub mod Writing
 pub mod Changed
 pub mod Variables
+pub mod Equals

@@ -13,10 +13,10 @@ use lib.Bits.{bitOr, bitXor}
 use lib.Dec.{eqb, ltb}
 use lib.ListN.{length, getD, set, length-set}
 use lib.Seq.{getD-set-same, getD-set-other}
-use Rattle.bits.specs.Sets.{bitAt, Places, Low}
+use Rattle.bits.specs.Sets.{bitAt, Places, Low, Met}
 use Rattle.bits.proofs.Words.{or-has, without-has, only-has}
 use Rattle.search_sets.specs.Places.{mostWords}
-use Rattle.search_sets.specs.Words.{Copied, Flagged, Told, Left}
+use Rattle.search_sets.specs.Words.{Copied, Flagged, Told, Left, Narrowable, Narrowed, Pairable, Paired}
 
 pub set-small : (width q : ℕ) → width ≤ mostWords → q < 69 → q * width < 2 ^ 64
 set-small width q h l = let l′ : q ≤ 69 = omega arith in let m : q * width ≤ 69 * 16 = mul-le-mul l′ h in omega (arith, m)
@@ -122,4 +122,23 @@ both-second m x y r e f g = g ∙ sym (rw (sym f ∙ e) refl)
 pub left-low : (ws : List ℕ) (base n r : ℕ) → Low ws base n r → Left ws base n (ltb r (n * 64))
 left-low ws base n r l = record { none = λ e x h. l .first x (omega (arith, ltb-false r (n * 64) e)) }
 
-pub ruleset mine = (needs, both-first, both-second, left-low, set-small, copied-start, copied-turn, copied-end, flag-on, flag-off, told-both)
+-- ---- a row met with another, and told
+
+pub narrowed : (old met new : List ℕ) (at a b n p : ℕ) (out : Bool) → Narrowable (length old) at a b n p → Met old met a b n → Told met new at p out → Narrowed old new at a b n p out
+narrowed old met new at a b n p out h m t =
+    record {
+      long = t .long ∙ m .long;
+      words = λ j l. t .others (a + j) (omega (arith, h .low)) ∙ m .words j l;
+      others = λ j l s. t .others j l ∙ m .others j s;
+      known = subst (λ (x : ℕ). Flagged x p true (getD new at 0)) (m .others at (inr (h .low))) (t .known);
+      outside = subst (λ (x : ℕ). Flagged x p out (getD new (at + 1) 0)) (m .others (at + 1) (inr (omega (arith, h .low)))) (t .outside);
+    }
+
+pub narrowable-again : (old mid : List ℕ) (size at a b n p q : ℕ) (out : Bool) → Pairable (length old) at a b n p q → Narrowed old mid at a b n p out → size ≡ length mid
+    → Narrowable size at b a n q
+narrowable-again old mid size at a b n p q out h m e = subst (λ (l : ℕ). Narrowable l at b a n q) (sym (e ∙ m .long)) (h .two)
+
+pub paired : (old mid new : List ℕ) (at a b n p q : ℕ) (out : Bool) → Narrowed old mid at a b n p out → Narrowed mid new at b a n q out → Paired old new at a b n p q out
+paired old mid new at a b n p q out m u = record { long = u .long ∙ m .long; between = mid; one = m; two = u }
+
+pub ruleset mine = (needs, narrowable-again, paired, narrowed, both-first, both-second, left-low, set-small, copied-start, copied-turn, copied-end, flag-on, flag-off, told-both)

@@ -4,12 +4,16 @@
 --     possibleIn                 what the run says is possible
 --     Room                       the run holds all of that, for at most 64 pattern rows and 16 words a set
 --     RowIn, PairIn              a pattern row that there is; two of them
+--     KnownPair                  two pattern rows whose words count
 --     VariableIn                 a pattern row and a variable
 -- Assumes nothing.
+use mathlib.Core.Bool.{true}
 use mathlib.Core.List.{List}
+use mathlib.Core.Path.{_≡_}
 use Prim.Native.Nat.{ℕ, _+_, _*_, _≤_, _<_}
-use lib.ListN.{getD, drop}
+use lib.ListN.{length, getD, drop}
 use Rattle.runs.specs.Limits.{mostPatterns, mostVariables}
+use Rattle.bits.specs.Sets.{bitAt}
 use Rattle.matching.specs.Possible.{Possible}
 use Rattle.matching.specs.InWords.{possibleOf}
 
@@ -50,3 +54,9 @@ pub record VariableIn (size count width p v : ℕ) : Type 0 where
   pub room : Room size count width
   pub row : p < count
   pub variable : v < mostVariables
+
+pub record KnownPair (sets : List ℕ) (count width p q : ℕ) : Type 0 where
+  pub pair : PairIn (length sets) count width p q
+  pub other : p ≡ q → ⊥
+  pub known-left : bitAt (getD sets (knownAt count width) 0) p ≡ true
+  pub known-right : bitAt (getD sets (knownAt count width) 0) q ≡ true

@@ -3,15 +3,18 @@
 --     Flagged      a word with one bit as told
 --     Told         row p's words count, and whether it may lie outside is as told
 --     Left         whether a set has a member
+--     Narrowable, Narrowed    a row met with another, and told; the words of both stand before the flags
+--     Pairable, Paired        each of two rows met with the other
 -- Assumes nothing.
 use mathlib.Core.Bool.{Bool, true, false}
 use mathlib.Core.List.{List}
 use mathlib.Core.Path.{_≡_}
 use mathlib.Core.Logic.{_⊎_}
 use Prim.Native.Nat.{ℕ, _+_, _*_, _≤_, _<_}
+use lib.Bits.{bitAnd}
 use lib.Dec.{eqb}
 use lib.ListN.{length, getD}
-use Rattle.bits.specs.Sets.{bitAt, has}
+use Rattle.bits.specs.Sets.{bitAt, has, Places}
 
 -- the words from b on stand from a on too
 pub record Copied (old new : List ℕ) (a b n : ℕ) : Type 0 where
@@ -33,3 +36,26 @@ pub record Told (old new : List ℕ) (at p : ℕ) (out : Bool) : Type 0 where
 -- no member where the answer is no
 pub record Left (sets : List ℕ) (base n : ℕ) (some : Bool) : Type 0 where
   pub none : some ≡ false → (x : ℕ) → x < n * 64 → has sets base x ≡ false
+
+pub record Narrowable (size at a b n p : ℕ) : Type 0 where
+  pub places : Places size a b n
+  pub flags : at + 1 < size
+  pub low : a + n ≤ at
+  pub bit : p < 64
+
+pub record Narrowed (old new : List ℕ) (at a b n p : ℕ) (out : Bool) : Type 0 where
+  pub long : length new ≡ length old
+  pub words : (j : ℕ) → j < n → getD new (a + j) 0 ≡ bitAnd (getD old (a + j) 0) (getD old (b + j) 0)
+  pub others : (j : ℕ) → j < at → (j < a) ⊎ (a + n ≤ j) → getD new j 0 ≡ getD old j 0
+  pub known : Flagged (getD old at 0) p true (getD new at 0)
+  pub outside : Flagged (getD old (at + 1) 0) p out (getD new (at + 1) 0)
+
+pub record Pairable (size at a b n p q : ℕ) : Type 0 where
+  pub one : Narrowable size at a b n p
+  pub two : Narrowable size at b a n q
+
+pub record Paired (old new : List ℕ) (at a b n p q : ℕ) (out : Bool) : Type 0 where
+  pub long : length new ≡ length old
+  pub between : List ℕ
+  pub one : Narrowed old between at a b n p out
+  pub two : Narrowed between new at b a n q out

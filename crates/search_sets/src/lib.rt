@@ -2,14 +2,16 @@
 // out an assignment that is sought.
 use bits::meet;
 use runs::limits::VARIABLES;
+use words::both_marked;
 use words::copy;
 use words::marked;
+use words::narrow_both;
 use words::set_at;
 use words::some;
 use words::tell;
 ghost use lib.ListN.{length};
-ghost use Rattle.search_sets.specs.Places.{VariableIn};
-ghost use Rattle.search_sets.specs.Keeps.{Keeps, Steps, VariableRow};
+ghost use Rattle.search_sets.specs.Places.{VariableIn, PairIn, KnownPair};
+ghost use Rattle.search_sets.specs.Keeps.{Keeps, Steps, VariableRow, EqualRows};
 
 mod words;
 
@@ -34,4 +36,34 @@ pub fn cut_candidates(sets: &mut [u64], count: usize, width: usize, p: usize, v:
         return some(sets, at, width);
     }
     some(sets, at, width)
+}
+
+// Two rows that are known get the set of what both can be. No: that is nothing.
+fn meet_known(sets: &mut [u64], count: usize, width: usize, p: usize, q: usize) -> bool
+    requires { ⌜ KnownPair (now sets) count width p q ⌝ }
+    ensures { λ r. ⌜ Steps (EqualRows p q) count width (now (sets .entry)) (now (sets .exit)) r ⌝ }
+{
+    let flags = set_at(width, count + VARIABLES);
+    let a = set_at(width, p);
+    let b = set_at(width, q);
+    let out = both_marked(sets, flags + 1, p, q);
+    narrow_both(sets, flags, a, b, width, p, q, out);
+    if out {
+        return true;
+    }
+    some(sets, a, width)
+}
+
+// Two rows of an equal literal can be what both can be. No: that is nothing, so there is no breach.
+pub fn meet_rows(sets: &mut [u64], count: usize, width: usize, p: usize, q: usize) -> bool
+    requires { ⌜ PairIn (length (now sets)) count width p q ⌝ }
+    ensures { λ r. ⌜ Steps (EqualRows p q) count width (now (sets .entry)) (now (sets .exit)) r ⌝ }
+{
+    if p == q {
+        return true;
+    }
+    if both_marked(sets, set_at(width, count + VARIABLES), p, q) {
+        return meet_known(sets, count, width, p, q);
+    }
+    true
 }

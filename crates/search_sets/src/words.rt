@@ -1,13 +1,14 @@
 // Words written and flags, in the run of a search's sets.
 use bits::bit;
 use bits::lowest;
+use bits::meet;
 ghost use mathlib.Core.Bool.{_&&_};
 ghost use mathlib.Core.Path.{_≡_};
 ghost use Prim.Native.Nat.{_+_, _*_, _<_, _≤_};
 ghost use lib.ListN.{length, getD};
 ghost use Rattle.bits.specs.Sets.{bitAt, Places};
 ghost use Rattle.search_sets.specs.Places.{mostWords};
-ghost use Rattle.search_sets.specs.Words.{Copied, Flagged, Told, Left};
+ghost use Rattle.search_sets.specs.Words.{Copied, Flagged, Told, Left, Narrowable, Narrowed, Pairable, Paired};
 
 // Where the words of set q begin: the pattern rows' sets stand first, then the variables', then the flags.
 pub(crate) fn set_at(width: usize, q: usize) -> usize
@@ -76,4 +77,39 @@ pub(crate) fn some(words: &[u64], base: usize, n: usize) -> bool
     ensures { λ r. ⌜ Left (now (words .entry)) base n r ⌝ }
 {
     lowest(words, base, n) < n * 64
+}
+
+// Row p, whose words stand from a on, is cut to the words from b on, and may lie outside as told.
+pub(crate) fn narrow(
+    words: &mut [u64],
+    at: usize,
+    a: usize,
+    b: usize,
+    n: usize,
+    p: usize,
+    out: bool,
+)
+    requires { ⌜ Narrowable (length (now words)) at a b n p ⌝ }
+    ensures { λ _. ⌜ Narrowed (now (words .entry)) (now (words .exit)) at a b n p out ⌝ }
+{
+    meet(words, a, b, n);
+    tell(words, at, p, out);
+}
+
+// Each of two rows is cut to the words of both.
+pub(crate) fn narrow_both(
+    words: &mut [u64],
+    at: usize,
+    a: usize,
+    b: usize,
+    n: usize,
+    p: usize,
+    q: usize,
+    out: bool,
+)
+    requires { ⌜ Pairable (length (now words)) at a b n p q ⌝ }
+    ensures { λ _. ⌜ Paired (now (words .entry)) (now (words .exit)) at a b n p q out ⌝ }
+{
+    narrow(words, at, a, b, n, p, out);
+    narrow(words, at, b, a, n, q, out);
 }
