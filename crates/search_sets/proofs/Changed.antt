@@ -1,5 +1,4 @@
 -- A run in which one set and its flags are other than they were, and what it allows.
---     Changed                        only set q, and bit q of the two words of flags
 --     changed-region, changed-told, changed-narrowed   by words written; by flags written; by both
 --     changed-then                   one after the other
 --     set-fits, sets-apart           where a set stands; two sets
@@ -31,7 +30,7 @@ use Rattle.matching.proofs.Allows.{allows-put, allows-wider}
 use Rattle.matching.proofs.Pruning.{told}
 use Rattle.search_sets.specs.Places.{knownAt, outsideAt, possibleIn}
 use Rattle.search_sets.specs.Keeps.{Setting, Fits}
-use Rattle.search_sets.specs.Words.{Told, Narrowed}
+use Rattle.search_sets.specs.Words.{Changed, Told, Narrowed}
 
 -- ---- where sets stand
 
@@ -47,13 +46,6 @@ sides-apart width p q e j m = side (ltb q p) refl
     side false z =
         let k : p < q = omega (arith, ltb-false q p z, eqb-false q p e) in
         inr (omega (arith, sets-apart width p q k))
-
--- the sets of the rows come first, then those of the variables
-pub record Changed (count width : ℕ) (old new : List ℕ) (p : ℕ) : Type 0 where
-  pub long : length new ≡ length old
-  pub words : (q : ℕ) → q < count + mostVariables → eqb q p ≡ false → (j : ℕ) → j < width → getD new (q * width + j) 0 ≡ getD old (q * width + j) 0
-  pub known : (q : ℕ) → eqb q p ≡ false → bitAt (getD new (knownAt count width) 0) q ≡ bitAt (getD old (knownAt count width) 0) q
-  pub outside : (q : ℕ) → eqb q p ≡ false → bitAt (getD new (outsideAt count width) 0) q ≡ bitAt (getD old (outsideAt count width) 0) q
 
 pub changed-then : (count width : ℕ) (old mid new : List ℕ) (p : ℕ) → Changed count width old mid p → Changed count width mid new p → Changed count width old new p
 changed-then count width old mid new p f g =

@@ -23,8 +23,8 @@ use Rattle.matching.proofs.Allows.{in-both}
 use Rattle.matching.proofs.Rounds.{holds-at}
 use Rattle.search_sets.specs.Places.{knownAt, outsideAt, possibleIn, Room, PairIn, KnownPair}
 use Rattle.search_sets.specs.Keeps.{Setting, Fits, AllowedIn, Keeps, None, Steps, EqualRows}
-use Rattle.search_sets.specs.Words.{Left, Narrowable, Narrowed, Pairable, Paired}
-use Rattle.search_sets.proofs.Changed.{Changed, Allowed, num, sets-apart, changed-narrowed, has-same, row-anew, row-number, row-none}
+use Rattle.search_sets.specs.Words.{Changed, Left, Narrowable, Narrowed, Pairable, Paired}
+use Rattle.search_sets.proofs.Changed.{Allowed, num, sets-apart, changed-narrowed, has-same, row-anew, row-number, row-none}
 use Rattle.search_sets.proofs.Variables.{keeps-same}
 
 -- ---- what is asked

@@ -4,7 +4,7 @@ use mathlib.Core.Bool.{Bool, true, false, not, _&&_, _||_}
 use mathlib.Core.List.{List}
 use mathlib.Core.Path.{_≡_, refl, ap, sym, _∙_, subst}
 use mathlib.Core.Logic.{_⊎_, inl, inr}
-use Prim.Native.Nat.{ℕ, _+_, _*_, _^_, _%_, _≤_, _<_}
+use Prim.Native.Nat.{ℕ, _+_, _*_, _/_, _^_, _%_, _≤_, _<_}
 use native.Mathlib.Nat.{mul-le-mul}
 use native.Mathlib.Omega.{arith}
 use borrow.Author.Needs.{needs}
@@ -16,7 +16,7 @@ use lib.Seq.{getD-set-same, getD-set-other}
 use Rattle.bits.specs.Sets.{bitAt, Places, Low, Met}
 use Rattle.bits.proofs.Words.{or-has, without-has, only-has}
 use Rattle.search_sets.specs.Places.{mostWords}
-use Rattle.search_sets.specs.Words.{Copied, Flagged, Told, Left, Narrowable, Narrowed, Pairable, Paired}
+use Rattle.search_sets.specs.Words.{Copied, Flagged, Told, Left, Narrowable, Narrowed, Pairable, Paired, Cleared, Added}
 
 pub set-small : (width q : ℕ) → width ≤ mostWords → q < 69 → q * width < 2 ^ 64
 set-small width q h l = let l′ : q ≤ 69 = omega arith in let m : q * width ≤ 69 * 16 = mul-le-mul l′ h in omega (arith, m)
@@ -122,6 +122,42 @@ both-second m x y r e f g = g ∙ sym (rw (sym f ∙ e) refl)
 pub left-low : (ws : List ℕ) (base n r : ℕ) → Low ws base n r → Left ws base n (ltb r (n * 64))
 left-low ws base n r l = record { none = λ e x h. l .first x (omega (arith, ltb-false r (n * 64) e)) }
 
+-- ---- a set without a member, and a member put in
+
+pub cleared-start : (ws : List ℕ) (a i : ℕ) → i ≡ 0 → Cleared ws ws a i
+cleared-start ws a i e = record { long = refl; words = λ j h. absurd (omega arith); others = λ j h. refl }
+
+pub cleared-turn : (old new : List ℕ) (a n i w m : ℕ) → a + n ≤ length old → i < n → Cleared old new a i → w ≡ 0 → m ≡ i + 1 → Cleared old (set new (a + i) w) a m
+cleared-turn old new a n i w m p h k e q =
+    record {
+      long = length-set new (a + i) w ∙ k .long;
+      words = λ j l. word j l (eqb j i) refl;
+      others = λ j l. getD-set-other new (a + i) j w 0 (λ z. outside j l z) ∙ k .others j (wider j l);
+    }
+  where
+    word : (j : ℕ) → j < m → (c : Bool) → eqb j i ≡ c → getD (set new (a + i) w) (a + j) 0 ≡ 0
+    word j l true z = let t : j ≡ i = eqb-true j i z in rw t (getD-set-same new (a + i) w 0 (omega (arith, k .long)) ∙ e)
+    word j l false z = getD-set-other new (a + i) (a + j) w 0 (λ t. eqb-false j i z (omega arith)) ∙ k .words j (omega (arith, eqb-false j i z))
+
+    outside : (j : ℕ) → (j < a) ⊎ (a + m ≤ j) → j ≡ a + i → ⊥
+    outside j (inl l) z = omega arith
+    outside j (inr l) z = omega arith
+
+    wider : (j : ℕ) → (j < a) ⊎ (a + m ≤ j) → (j < a) ⊎ (a + i ≤ j)
+    wider j (inl l) = inl l
+    wider j (inr l) = inr (omega arith)
+
+pub cleared-end : (old new : List ℕ) (a n i : ℕ) → Cleared old new a i → i ≤ n → n ≤ i → Cleared old new a n
+cleared-end old new a n i k h l = let e : i ≡ n = omega arith in subst (Cleared old new a) e k
+
+pub added : (old : List ℕ) (a k w : ℕ) → a + k / 64 < length old → Flagged (getD old (a + k / 64) 0) (k % 64) true w → Added old (set old (a + k / 64) w) a k
+added old a k w h f =
+    record {
+      long = length-set old (a + k / 64) w;
+      word = subst (Flagged (getD old (a + k / 64) 0) (k % 64) true) (sym (getD-set-same old (a + k / 64) w 0 h)) f;
+      others = λ j n. getD-set-other old (a + k / 64) j w 0 n;
+    }
+
 -- ---- a row met with another, and told
 
 pub narrowed : (old met new : List ℕ) (at a b n p : ℕ) (out : Bool) → Narrowable (length old) at a b n p → Met old met a b n → Told met new at p out → Narrowed old new at a b n p out
@@ -141,4 +177,4 @@ narrowable-again old mid size at a b n p q out h m e = subst (λ (l : ℕ). Narr
 pub paired : (old mid new : List ℕ) (at a b n p q : ℕ) (out : Bool) → Narrowed old mid at a b n p out → Narrowed mid new at b a n q out → Paired old new at a b n p q out
 paired old mid new at a b n p q out m u = record { long = u .long ∙ m .long; between = mid; one = m; two = u }
 
-pub ruleset mine = (needs, narrowable-again, paired, narrowed, both-first, both-second, left-low, set-small, copied-start, copied-turn, copied-end, flag-on, flag-off, told-both)
+pub ruleset mine = (needs, cleared-start, cleared-turn, cleared-end, added, narrowable-again, paired, narrowed, both-first, both-second, left-low, set-small, copied-start, copied-turn, copied-end, flag-on, flag-off, told-both)

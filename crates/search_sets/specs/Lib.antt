@@ -1,3 +1,4 @@
 pub mod Places
 pub mod Keeps
 pub mod Words
+pub mod Rising

@@ -3,18 +3,23 @@
 --     Flagged      a word with one bit as told
 --     Told         row p's words count, and whether it may lie outside is as told
 --     Left         whether a set has a member
+--     Single       whether a set has one member at most
 --     Narrowable, Narrowed    a row met with another, and told; the words of both stand before the flags
 --     Pairable, Paired        each of two rows met with the other
+--     Changed                 one set written
+--     Cleared, Added          a set without a member; a member put in
 -- Assumes nothing.
 use mathlib.Core.Bool.{Bool, true, false}
 use mathlib.Core.List.{List}
 use mathlib.Core.Path.{_≡_}
 use mathlib.Core.Logic.{_⊎_}
-use Prim.Native.Nat.{ℕ, _+_, _*_, _≤_, _<_}
+use Prim.Native.Nat.{ℕ, _+_, _*_, _/_, _%_, _≤_, _<_}
 use lib.Bits.{bitAnd}
 use lib.Dec.{eqb}
 use lib.ListN.{length, getD}
 use Rattle.bits.specs.Sets.{bitAt, has, Places}
+use Rattle.runs.specs.Limits.{mostVariables}
+use Rattle.search_sets.specs.Places.{knownAt, outsideAt}
 
 -- the words from b on stand from a on too
 pub record Copied (old new : List ℕ) (a b n : ℕ) : Type 0 where
@@ -36,6 +41,9 @@ pub record Told (old new : List ℕ) (at p : ℕ) (out : Bool) : Type 0 where
 -- no member where the answer is no
 pub record Left (sets : List ℕ) (base n : ℕ) (some : Bool) : Type 0 where
   pub none : some ≡ false → (x : ℕ) → x < n * 64 → has sets base x ≡ false
+
+pub record Single (sets : List ℕ) (base n : ℕ) (r : Bool) : Type 0 where
+  pub one : r ≡ true → (x y : ℕ) → x < n * 64 → y < n * 64 → has sets base x ≡ true → has sets base y ≡ true → x ≡ y
 
 pub record Narrowable (size at a b n p : ℕ) : Type 0 where
   pub places : Places size a b n
@@ -59,3 +67,20 @@ pub record Paired (old new : List ℕ) (at a b n p q : ℕ) (out : Bool) : Type 
   pub between : List ℕ
   pub one : Narrowed old between at a b n p out
   pub two : Narrowed between new at b a n q out
+
+-- the sets of the rows come first, then those of the variables; only set p is other than it was, and bit p of the two words of flags
+pub record Changed (count width : ℕ) (old new : List ℕ) (p : ℕ) : Type 0 where
+  pub long : length new ≡ length old
+  pub words : (q : ℕ) → q < count + mostVariables → eqb q p ≡ false → (j : ℕ) → j < width → getD new (q * width + j) 0 ≡ getD old (q * width + j) 0
+  pub known : (q : ℕ) → eqb q p ≡ false → bitAt (getD new (knownAt count width) 0) q ≡ bitAt (getD old (knownAt count width) 0) q
+  pub outside : (q : ℕ) → eqb q p ≡ false → bitAt (getD new (outsideAt count width) 0) q ≡ bitAt (getD old (outsideAt count width) 0) q
+
+pub record Cleared (old new : List ℕ) (a n : ℕ) : Type 0 where
+  pub long : length new ≡ length old
+  pub words : (j : ℕ) → j < n → getD new (a + j) 0 ≡ 0
+  pub others : (j : ℕ) → (j < a) ⊎ (a + n ≤ j) → getD new j 0 ≡ getD old j 0
+
+pub record Added (old new : List ℕ) (a k : ℕ) : Type 0 where
+  pub long : length new ≡ length old
+  pub word : Flagged (getD old (a + k / 64) 0) (k % 64) true (getD new (a + k / 64) 0)
+  pub others : (j : ℕ) → (j ≡ a + k / 64 → ⊥) → getD new j 0 ≡ getD old j 0

@@ -13,6 +13,7 @@ ghost use lib.ListN.{length};
 ghost use Rattle.search_sets.specs.Places.{VariableIn, PairIn, KnownPair};
 ghost use Rattle.search_sets.specs.Keeps.{Keeps, Steps, VariableRow, EqualRows};
 
+pub mod rising;
 mod words;
 
 // A row that is a variable has the variable's candidates, and does not lie outside.

@@ -4,11 +4,11 @@ use bits::lowest;
 use bits::meet;
 ghost use mathlib.Core.Bool.{_&&_};
 ghost use mathlib.Core.Path.{_≡_};
-ghost use Prim.Native.Nat.{_+_, _*_, _<_, _≤_};
+ghost use Prim.Native.Nat.{_+_, _*_, _/_, _<_, _≤_};
 ghost use lib.ListN.{length, getD};
 ghost use Rattle.bits.specs.Sets.{bitAt, Places};
 ghost use Rattle.search_sets.specs.Places.{mostWords};
-ghost use Rattle.search_sets.specs.Words.{Copied, Flagged, Told, Left, Narrowable, Narrowed, Pairable, Paired};
+ghost use Rattle.search_sets.specs.Words.{Copied, Flagged, Told, Left, Narrowable, Narrowed, Pairable, Paired, Cleared, Added};
 
 // Where the words of set q begin: the pattern rows' sets stand first, then the variables', then the flags.
 pub(crate) fn set_at(width: usize, q: usize) -> usize
@@ -112,4 +112,25 @@ pub(crate) fn narrow_both(
 {
     narrow(words, at, a, b, n, p, out);
     narrow(words, at, b, a, n, q, out);
+}
+
+// The n words from a on keep no member.
+pub(crate) fn clear(words: &mut [u64], a: usize, n: usize)
+    requires { ⌜ a + n ≤ length (now words) ⌝ }
+    ensures { λ _. ⌜ Cleared (now (words .entry)) (now (words .exit)) a n ⌝ }
+{
+    let mut i: usize = 0;
+    while i < n {
+        words[a + i] = 0;
+        i += 1;
+    }
+}
+
+// k is put into the set from a on.
+pub(crate) fn add(words: &mut [u64], a: usize, k: usize)
+    requires { ⌜ a + k / 64 < length (now words) ⌝ }
+    ensures { λ _. ⌜ Added (now (words .entry)) (now (words .exit)) a k ⌝ }
+{
+    let at = a + k / 64;
+    words[at] = flagged(words[at], k % 64, true);
 }
