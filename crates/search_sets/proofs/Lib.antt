@@ -6,3 +6,5 @@ pub mod Symbols
 pub mod Gathering
 pub mod Arguments
 pub mod Risen
+pub mod Seeing
+pub mod Sunk

@@ -110,26 +110,26 @@ module _ (rows table patterns old : List ℕ) (width p : ℕ) (h : KnownSymbol r
   abbrev over : List ℕ
   over = patternArgsIn patterns p
 
-  over-long : length over ≡ patternCountIn patterns p
+  pub over-long : length over ≡ patternCountIn patterns p
   over-long = args-length patterns (p * patternSize + 3) (patternCountIn patterns p) (omega (arith, h .symbol .row .row)) (h .symbol .args .few)
 
-  over-at : (j : ℕ) → j < patternCountIn patterns p → getD over j 0 ≡ patternArgIn patterns p j
+  pub over-at : (j : ℕ) → j < patternCountIn patterns p → getD over j 0 ≡ patternArgIn patterns p j
   over-at j l = arg-at patterns (p * patternSize + 3) (patternCountIn patterns p) j l (h .symbol .args .few)
 
-  pattern-is : patternAt (s .rule .patterns) p ≡ apply head over
+  pub pattern-is : patternAt (s .rule .patterns) p ≡ apply head over
   pattern-is = ap (λ (l : List Pattern). patternAt l p) (k .pattern) ∙ patterns-at patterns p pattern₀ (h .symbol .row .row) ∙ pattern-symbol patterns p (h .symbol .kind)
 
-  row-is : (i : ℕ) → i < rowCount rows → rowAt (s .rows) i ≡ rowIn rows i
+  pub row-is : (i : ℕ) → i < rowCount rows → rowAt (s .rows) i ≡ rowIn rows i
   row-is i l = ap (λ (r : List Row). rowAt r i) (k .said) ∙ rows-at rows i l
 
-  rows-long : length (s .rows) ≡ rowCount rows
+  pub rows-long : length (s .rows) ≡ rowCount rows
   rows-long = ap length (k .said) ∙ length-rows rows
 
   class-is : (j x : ℕ) → j < patternCountIn patterns p → P .classes (getD over j 0) x ≡ has old (patternArgIn patterns p j * width) x
   unfolding possibleIn possibleOf
   class-is j x l = ap (λ (q : ℕ). P .classes q x) (over-at j l) ∙ ap (λ (b : Bool). not b || has old (patternArgIn patterns p j * width) x) (h .known .known refl j l)
 
-  entry-is : (i j : ℕ) → i < rowCount rows → j < countIn rows i → getD (map (s .rep) (argsIn rows i)) j 0 ≡ getD table (argIn rows i j) 0
+  pub entry-is : (i j : ℕ) → i < rowCount rows → j < countIn rows i → getD (map (s .rep) (argsIn rows i)) j 0 ≡ getD table (argIn rows i j) 0
   entry-is i j l m =
       let few : countIn rows i ≤ 4 = h .symbol .placed .each i l .few in
       map-at (s .rep) (argsIn rows i) j (omega (arith, row-length rows i l few))
@@ -149,7 +149,7 @@ module _ (rows table patterns old : List ℕ) (width p : ℕ) (h : KnownSymbol r
   unfolding fits
   fits-is i l = ap (fits (s .rows) (s .rep) (s .bound) (s .rule .patterns) P head over) (row-is i l)
 
-  fits-in : (i : ℕ) → i < rowCount rows → fitsAt i ≡ true → FitsIn rows table patterns old width p i
+  pub fits-in : (i : ℕ) → i < rowCount rows → fitsAt i ≡ true → FitsIn rows table patterns old width p i
   fits-in i l t =
       let e : (eqb head (symbolIn rows i) && mayAt i) ≡ true = sym (fits-is i l) ∙ t in
       let m : mayAt i ≡ true = and-true-right (eqb head (symbolIn rows i)) (mayAt i) e in

@@ -9,14 +9,14 @@ use native.Mathlib.Nat.{mul-le-mul}
 use native.Mathlib.Omega.{arith}
 use borrow.Author.Needs.{needs}
 use borrow.Author.Tests.{eqb-true, eqb-false, eq-eqb, ltb-false}
-use lib.Bits.{bitOr, bitXor}
+use lib.Bits.{bitAnd, bitOr, bitXor}
 use lib.Dec.{eqb, ltb}
 use lib.ListN.{length, getD, set, length-set}
 use lib.Seq.{getD-set-same, getD-set-other}
 use Rattle.bits.specs.Sets.{bitAt, Places, Low, Met}
 use Rattle.bits.proofs.Words.{or-has, without-has, only-has}
 use Rattle.search_sets.specs.Places.{mostWords}
-use Rattle.search_sets.specs.Words.{Copied, Flagged, Told, Left, Narrowable, Narrowed, Pairable, Paired, Cleared, Added}
+use Rattle.search_sets.specs.Words.{Copied, Flagged, Told, Left, Narrowable, Narrowed, Pairable, Paired, Cleared, Added, MetWith, Cuttable, CutRow}
 
 pub set-small : (width q : ℕ) → width ≤ mostWords → q < 69 → q * width < 2 ^ 64
 set-small width q h l = let l′ : q ≤ 69 = omega arith in let m : q * width ≤ 69 * 16 = mul-le-mul l′ h in omega (arith, m)
@@ -177,4 +177,48 @@ narrowable-again old mid size at a b n p q out h m e = subst (λ (l : ℕ). Narr
 pub paired : (old mid new : List ℕ) (at a b n p q : ℕ) (out : Bool) → Narrowed old mid at a b n p out → Narrowed mid new at b a n q out → Paired old new at a b n p q out
 paired old mid new at a b n p q out m u = record { long = u .long ∙ m .long; between = mid; one = m; two = u }
 
-pub ruleset mine = (needs, cleared-start, cleared-turn, cleared-end, added, narrowable-again, paired, narrowed, both-first, both-second, left-low, set-small, copied-start, copied-turn, copied-end, flag-on, flag-off, told-both)
+-- ---- a set cut to a set of another run
+
+pub with-start : (ws more : List ℕ) (a b i : ℕ) → i ≡ 0 → MetWith ws more ws a b i
+with-start ws more a b i e = record { long = refl; words = λ j h. absurd (omega arith); others = λ j h. refl }
+
+pub with-turn : (old more new : List ℕ) (a b n i w m : ℕ) → a + n ≤ length old → i < n → MetWith old more new a b i → w ≡ bitAnd (getD new (a + i) 0) (getD more (b + i) 0) → m ≡ i + 1
+    → MetWith old more (set new (a + i) w) a b m
+with-turn old more new a b n i w m p h k e q =
+    record {
+      long = length-set new (a + i) w ∙ k .long;
+      words = λ j l. word j l (eqb j i) refl;
+      others = λ j l. getD-set-other new (a + i) j w 0 (λ z. outside j l z) ∙ k .others j (wider j l);
+    }
+  where
+    word : (j : ℕ) → j < m → (c : Bool) → eqb j i ≡ c → getD (set new (a + i) w) (a + j) 0 ≡ bitAnd (getD old (a + j) 0) (getD more (b + j) 0)
+    word j l true z =
+        let t : j ≡ i = eqb-true j i z in
+        rw t (getD-set-same new (a + i) w 0 (omega (arith, k .long)) ∙ e ∙ ap (λ (x : ℕ). bitAnd x (getD more (b + i) 0)) (k .others (a + i) (inr (omega arith))))
+    word j l false z = getD-set-other new (a + i) (a + j) w 0 (λ t. eqb-false j i z (omega arith)) ∙ k .words j (omega (arith, eqb-false j i z))
+
+    outside : (j : ℕ) → (j < a) ⊎ (a + m ≤ j) → j ≡ a + i → ⊥
+    outside j (inl l) z = omega arith
+    outside j (inr l) z = omega arith
+
+    wider : (j : ℕ) → (j < a) ⊎ (a + m ≤ j) → (j < a) ⊎ (a + i ≤ j)
+    wider j (inl l) = inl l
+    wider j (inr l) = inr (omega arith)
+
+pub with-end : (old more new : List ℕ) (a b n i : ℕ) → MetWith old more new a b i → i ≤ n → n ≤ i → MetWith old more new a b n
+with-end old more new a b n i k h l = let e : i ≡ n = omega arith in subst (MetWith old more new a b) e k
+
+pub cut-room : (size more at a b n p : ℕ) → Cuttable size more at a b n p → a + n ≤ size
+cut-room size more at a b n p h = omega (arith, h .low, h .flags)
+
+pub row-cut : (old more met new : List ℕ) (size at a b n p : ℕ) → Cuttable (length old) size at a b n p → MetWith old more met a b n → Told met new at p false → CutRow old more new at a b n p
+row-cut old more met new size at a b n p h m t =
+    record {
+      long = t .long ∙ m .long;
+      words = λ j l. t .others (a + j) (omega (arith, h .low)) ∙ m .words j l;
+      others = λ j l s. t .others j l ∙ m .others j s;
+      known = subst (λ (x : ℕ). Flagged x p true (getD new at 0)) (m .others at (inr (h .low))) (t .known);
+      outside = subst (λ (x : ℕ). Flagged x p false (getD new (at + 1) 0)) (m .others (at + 1) (inr (omega (arith, h .low)))) (t .outside);
+    }
+
+pub ruleset mine = (needs, with-start, with-turn, with-end, cut-room, row-cut, cleared-start, cleared-turn, cleared-end, added, narrowable-again, paired, narrowed, both-first, both-second, left-low, set-small, copied-start, copied-turn, copied-end, flag-on, flag-off, told-both)

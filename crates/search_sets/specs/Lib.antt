@@ -2,3 +2,4 @@ pub mod Places
 pub mod Keeps
 pub mod Words
 pub mod Rising
+pub mod Sinking

@@ -7,7 +7,8 @@
 --     Narrowable, Narrowed    a row met with another, and told; the words of both stand before the flags
 --     Pairable, Paired        each of two rows met with the other
 --     Changed                 one set written
---     Cleared, Added          a set without a member; a member put in
+--     Cleared, Added, Grown   a set without a member; a member put in; any number of them
+--     MetWith, Cuttable, CutRow    a set, or a row, cut to a set of another run
 -- Assumes nothing.
 use mathlib.Core.Bool.{Bool, true, false}
 use mathlib.Core.List.{List}
@@ -84,3 +85,28 @@ pub record Added (old new : List ℕ) (a k : ℕ) : Type 0 where
   pub long : length new ≡ length old
   pub word : Flagged (getD old (a + k / 64) 0) (k % 64) true (getD new (a + k / 64) 0)
   pub others : (j : ℕ) → (j ≡ a + k / 64 → ⊥) → getD new j 0 ≡ getD old j 0
+
+-- n words from a on cut to those of another run from b on
+pub record MetWith (old more new : List ℕ) (a b n : ℕ) : Type 0 where
+  pub long : length new ≡ length old
+  pub words : (j : ℕ) → j < n → getD new (a + j) 0 ≡ bitAnd (getD old (a + j) 0) (getD more (b + j) 0)
+  pub others : (j : ℕ) → (j < a) ⊎ (a + n ≤ j) → getD new j 0 ≡ getD old j 0
+
+pub record Cuttable (size more at a b n p : ℕ) : Type 0 where
+  pub low : a + n ≤ at
+  pub right : b + n ≤ more
+  pub flags : at + 1 < size
+  pub bit : p < 64
+
+-- a row cut so, which does not lie outside
+pub record CutRow (old more new : List ℕ) (at a b n p : ℕ) : Type 0 where
+  pub long : length new ≡ length old
+  pub words : (j : ℕ) → j < n → getD new (a + j) 0 ≡ bitAnd (getD old (a + j) 0) (getD more (b + j) 0)
+  pub others : (j : ℕ) → j < at → (j < a) ⊎ (a + n ≤ j) → getD new j 0 ≡ getD old j 0
+  pub known : Flagged (getD old at 0) p true (getD new at 0)
+  pub outside : Flagged (getD old (at + 1) 0) p false (getD new (at + 1) 0)
+
+-- bits are added and none is taken
+pub record Grown (old new : List ℕ) : Type 0 where
+  pub long : length new ≡ length old
+  pub bits : (j q : ℕ) → bitAt (getD old j 0) q ≡ true → bitAt (getD new j 0) q ≡ true

@@ -14,6 +14,7 @@ ghost use Rattle.search_sets.specs.Places.{VariableIn, PairIn, KnownPair
 ghost use Rattle.search_sets.specs.Keeps.{Keeps, Steps, VariableRow, EqualRows};
 
 pub mod rising;
+pub mod sinking;
 mod words;
 
 // A row that is a variable has the variable's candidates, and does not lie outside.

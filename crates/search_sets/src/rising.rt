@@ -30,7 +30,7 @@ ghost use Rattle.search_sets.specs.Words.{Single};
 ghost use Rattle.search_sets.specs.Keeps.{Keeps};
 ghost use Rattle.search_sets.specs.Rising.{RowsOf, Symbol, SameHead, RowAsk, HeadAsk, ArgAsk, FitsIn, Joins, Gathered, PatternAsk, KnownArgs, FixedAt, FixedArgs, KnownSymbol};
 
-fn entry(table: &[u16], i: usize) -> usize
+pub(crate) fn entry(table: &[u16], i: usize) -> usize
     requires { ⌜ i < length (now table) ⌝ }
     ensures { λ r. ⌜ r ≡ getD (now (table .entry)) i 0 ⌝ }
 {
@@ -92,7 +92,7 @@ fn args_fit(
 }
 
 // Whether context row i has the symbol of row p, over classes that the arguments of row p can have.
-fn fits(
+pub(crate) fn fits(
     rows: &[u16],
     table: &[u16],
     patterns: &[u16],
@@ -130,7 +130,7 @@ fn join_row(
     false
 }
 
-fn either(a: bool, b: bool) -> bool
+pub(crate) fn either(a: bool, b: bool) -> bool
     ensures { λ r. ⌜ r ≡ (a || b) ⌝ }
 {
     if a {
@@ -178,7 +178,7 @@ fn gather_anew(
 }
 
 // Where the flags stand.
-fn flags_at(patterns: &[u16], width: usize) -> usize
+pub(crate) fn flags_at(patterns: &[u16], width: usize) -> usize
     requires { ⌜ (width ≤ mostWords) × (patternCount (now patterns) ≤ mostPatterns) ⌝ }
     ensures { λ r. ⌜ r ≡ knownAt (patternCount (now (patterns .entry))) width ⌝ }
 {
@@ -186,7 +186,7 @@ fn flags_at(patterns: &[u16], width: usize) -> usize
 }
 
 // Whether the words of all arguments of row p count.
-fn args_known(patterns: &[u16], sets: &[u64], width: usize, p: usize) -> bool
+pub(crate) fn args_known(patterns: &[u16], sets: &[u64], width: usize, p: usize) -> bool
     requires { ⌜ PatternAsk (now patterns) (length (now sets)) width p ⌝ }
     ensures { λ r. ⌜ KnownArgs (now (patterns .entry)) (now (sets .entry)) width p (patternCountIn (now (patterns .entry)) p) r ⌝ }
 {

@@ -8,7 +8,7 @@ ghost use Prim.Native.Nat.{_+_, _*_, _/_, _<_, _≤_};
 ghost use lib.ListN.{length, getD};
 ghost use Rattle.bits.specs.Sets.{bitAt, Places};
 ghost use Rattle.search_sets.specs.Places.{mostWords};
-ghost use Rattle.search_sets.specs.Words.{Copied, Flagged, Told, Left, Narrowable, Narrowed, Pairable, Paired, Cleared, Added};
+ghost use Rattle.search_sets.specs.Words.{Copied, Flagged, Told, Left, Narrowable, Narrowed, Pairable, Paired, Cleared, Added, MetWith, Cuttable, CutRow};
 
 // Where the words of set q begin: the pattern rows' sets stand first, then the variables', then the flags.
 pub(crate) fn set_at(width: usize, q: usize) -> usize
@@ -133,4 +133,35 @@ pub(crate) fn add(words: &mut [u64], a: usize, k: usize)
 {
     let at = a + k / 64;
     words[at] = flagged(words[at], k % 64, true);
+}
+
+// The n words from a on are cut to those of another run from b on.
+pub(crate) fn meet_with(words: &mut [u64], a: usize, others: &[u64], b: usize, n: usize)
+    requires { ⌜ (a + n ≤ length (now words)) × (b + n ≤ length (now others)) ⌝ }
+    ensures { λ _. ⌜ MetWith (now (words .entry)) (now (others .entry)) (now (words .exit)) a b n ⌝ }
+{
+    let mut i: usize = 0;
+    while i < n {
+        let x = words[a + i];
+        let y = others[b + i];
+        words[a + i] = x & y;
+        i += 1;
+    }
+}
+
+// Row p, whose words stand from a on, is cut so, and does not lie outside.
+pub(crate) fn cut_row(
+    words: &mut [u64],
+    at: usize,
+    a: usize,
+    others: &[u64],
+    b: usize,
+    n: usize,
+    p: usize,
+)
+    requires { ⌜ Cuttable (length (now words)) (length (now others)) at a b n p ⌝ }
+    ensures { λ _. ⌜ CutRow (now (words .entry)) (now (others .entry)) (now (words .exit)) at a b n p ⌝ }
+{
+    meet_with(words, a, others, b, n);
+    tell(words, at, p, false);
 }
