@@ -8,3 +8,5 @@ pub mod Arguments
 pub mod Risen
 pub mod Seeing
 pub mod Sunk
+pub mod Parts
+pub mod Differing

@@ -88,7 +88,7 @@ changed-cut count width old more new p b h t =
     }
 
 -- a row cut to a set that has its number
-cut-allowed : (s : Setting) (count width : ℕ) (f : Fits count width s) (a : List ℕ) (old more new : List ℕ) (q b : ℕ) → q < count
+pub cut-allowed : (s : Setting) (count width : ℕ) (f : Fits count width s) (a : List ℕ) (old more new : List ℕ) (q b : ℕ) → q < count
     → bitAt (getD old (knownAt count width) 0) q ≡ true → CutRow old more new (knownAt count width) (q * width) b width q
     → numberAt (numbers (s .rows) (s .rep) (s .offset) (s .rule .patterns) a) q < s .bound
     → has more b (numberAt (numbers (s .rows) (s .rep) (s .offset) (s .rule .patterns) a) q) ≡ true

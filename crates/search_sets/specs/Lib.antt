@@ -3,3 +3,4 @@ pub mod Keeps
 pub mod Words
 pub mod Rising
 pub mod Sinking
+pub mod Parting

@@ -13,6 +13,7 @@ ghost use lib.ListN.{length};
 ghost use Rattle.search_sets.specs.Places.{VariableIn, PairIn, KnownPair};
 ghost use Rattle.search_sets.specs.Keeps.{Keeps, Steps, VariableRow, EqualRows};
 
+pub mod parting;
 pub mod rising;
 pub mod sinking;
 mod words;
