@@ -1,4 +1,8 @@
 -- The arguments of a row: whether all are known, and whether all are fixed.
+--     ArgTo, pattern-row .. place-room   an argument, and where its words stand
+--     KnownTo, known-start .. known-to   whether all are known
+--     single-by                  one member at most
+--     fixed-outside, fixed-inside, FixedTo, fixed-start .. fixed-to   whether one is fixed; whether all are
 -- Assumes nothing.
 use mathlib.Core.Bool.{Bool, true, false, not}
 use mathlib.Core.List.{List}
@@ -7,9 +11,9 @@ use Prim.Native.Nat.{ℕ, _+_, _*_, _≤_, _<_}
 use native.Mathlib.Omega.{arith}
 use native.Mathlib.Decide.{decLt}
 use borrow.Author.Needs.{needs}
-use borrow.Author.Tests.{eqb-true, eqb-false, not-true}
+use borrow.Author.Tests.{eqb-true, eqb-false}
 use lib.Dec.{eqb}
-use lib.ListN.{length, getD}
+use lib.ListN.{getD}
 use Rattle.meaning.proofs.Logic.{false-true}
 use Rattle.bits.specs.Sets.{bitAt, has, Low, Next}
 use Rattle.runs.specs.Limits.{argPlaces}

@@ -1,8 +1,11 @@
 -- Two rows of an unequal literal: what is asked, and what is promised.
+--     known-part .. part-back    what is asked
+--     parts-by, parts-same       one row cut by the other; nothing is changed
+--     part-both, part-first      each cut by the other; the first alone, where it has nothing left
 -- Assumes nothing.
 use mathlib.Core.Bool.{Bool, true, false, _&&_}
 use mathlib.Core.List.{List}
-use mathlib.Core.Path.{_≡_, refl, ap, sym, _∙_, subst}
+use mathlib.Core.Path.{_≡_, refl, sym, _∙_}
 use Prim.Native.Nat.{ℕ, _+_, _*_, _≤_, _<_}
 use native.Mathlib.Omega.{arith}
 use borrow.Author.Needs.{needs}
@@ -15,8 +18,8 @@ use Rattle.meaning.proofs.Pruned.{Sought}
 use Rattle.bits.specs.Sets.{bitAt, has}
 use Rattle.matching.proofs.Allows.{in-low}
 use Rattle.matching.proofs.Rounds.{holds-at}
-use Rattle.search_sets.specs.Places.{knownAt, outsideAt, possibleIn, PairIn}
-use Rattle.search_sets.specs.Keeps.{Setting, Fits, AllowedIn, Keeps, None, Steps}
+use Rattle.search_sets.specs.Places.{knownAt, outsideAt}
+use Rattle.search_sets.specs.Keeps.{Setting, Fits, AllowedIn, Steps}
 use Rattle.search_sets.specs.Words.{Left, Cuttable, CutRow}
 use Rattle.search_sets.specs.Parting.{UnequalRows, Differ, Parts, ApartAsk, Parted, CutLeft, PartAsk, KnownPart}
 use Rattle.search_sets.proofs.Changed.{sets-apart, row-number, row-none}

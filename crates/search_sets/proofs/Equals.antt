@@ -1,8 +1,12 @@
 -- Two rows that a literal equates: what is asked, and what is promised.
+--     steps-same                 nothing is changed
+--     known-pair, pairable, pair-room    two rows that are known, and where their words stand
+--     equal-numbers              the numbers of the rows are equal
+--     meet-none, meet-some       both rows cut to what both can be, with nothing left or with something
 -- Assumes nothing.
 use mathlib.Core.Bool.{Bool, true, false, _&&_}
 use mathlib.Core.List.{List}
-use mathlib.Core.Path.{_≡_, refl, ap, sym, _∙_, subst}
+use mathlib.Core.Path.{_≡_, refl, sym, _∙_, subst}
 use mathlib.Core.Logic.{_⊎_, inl, inr}
 use Prim.Native.Nat.{ℕ, _+_, _*_, _≤_, _<_}
 use native.Mathlib.Omega.{arith}
@@ -13,16 +17,15 @@ use lib.ListN.{length, getD}
 use Rattle.meaning.specs.Rules.{equal}
 use Rattle.meaning.specs.Values.{numberAt, numbers}
 use Rattle.meaning.specs.FirstBy.{holdsBy, breaks}
-use Rattle.meaning.specs.Grounds.{literalAt}
 use Rattle.meaning.proofs.Logic.{and-true-left, and-true-right, and-both, false-true}
 use Rattle.meaning.proofs.Pruned.{Sought}
-use Rattle.bits.specs.Sets.{bitAt, has, Places}
+use Rattle.bits.specs.Sets.{bitAt, has}
 use Rattle.bits.proofs.Words.{both-has}
 use Rattle.matching.specs.Sound.{In}
 use Rattle.matching.proofs.Allows.{in-both}
 use Rattle.matching.proofs.Rounds.{holds-at}
-use Rattle.search_sets.specs.Places.{knownAt, outsideAt, possibleIn, Room, PairIn, KnownPair}
-use Rattle.search_sets.specs.Keeps.{Setting, Fits, AllowedIn, Keeps, None, Steps, EqualRows}
+use Rattle.search_sets.specs.Places.{knownAt, outsideAt, possibleIn, PairIn, KnownPair}
+use Rattle.search_sets.specs.Keeps.{Setting, Fits, AllowedIn, Keeps, Steps, EqualRows}
 use Rattle.search_sets.specs.Words.{Changed, Left, Narrowable, Narrowed, Pairable, Paired}
 use Rattle.search_sets.proofs.Changed.{Allowed, num, sets-apart, changed-narrowed, has-same, row-anew, row-number, row-none}
 use Rattle.search_sets.proofs.Variables.{keeps-same}

@@ -1,4 +1,8 @@
 -- The classes of the context rows that fit, put into a row's set one by one.
+--     join-yes, join-no          one context row
+--     fits-moved                 whether a context row fits does not rest on the row's own set
+--     Gathering, gather-start .. gather-long   all context rows
+--     clear-room, symbol-late, gather-cleared  with nothing in the set before
 -- Assumes nothing.
 use mathlib.Core.Bool.{Bool, true, false, _||_}
 use mathlib.Core.List.{List}
@@ -12,7 +16,7 @@ use lib.Dec.{eqb}
 use lib.ListN.{length, getD}
 use Rattle.meaning.proofs.Logic.{false-true, or-cases}
 use Rattle.bits.specs.Sets.{bitAt, has}
-use Rattle.runs.specs.Runs.{rowCount, countIn, argIn, patternCount, patternArgIn}
+use Rattle.runs.specs.Runs.{rowCount, argIn, patternCount, patternArgIn}
 use Rattle.runs.specs.Fit.{Decides}
 use Rattle.search_sets.specs.Words.{Changed, Cleared, Added}
 use Rattle.search_sets.specs.Rising.{Symbol, RowAsk, FitsIn, Joins, Fitting, Gathered}

@@ -1,16 +1,20 @@
 -- What may differ from some class of a set, put into the scratch.
+--     class-small, class-below, apart-room   where the set of a class stands
+--     adds-apart                 one class
+--     Parting, part-start .. part-long   all classes of a set
+--     part-cleared, part-again   with nothing in the scratch before
 -- Assumes nothing.
 use mathlib.Core.Bool.{Bool, true, false, _||_}
 use mathlib.Core.List.{List}
-use mathlib.Core.Path.{_≡_, refl, ap, sym, _∙_, subst}
-use Prim.Native.Nat.{ℕ, suc, _+_, _*_, _-_, _^_, _≤_, _<_}
+use mathlib.Core.Path.{_≡_, refl, sym, _∙_, subst}
+use Prim.Native.Nat.{ℕ, _+_, _*_, _-_, _^_, _≤_, _<_}
 use native.Mathlib.Nat.{mul-le-mul}
 use native.Mathlib.Omega.{arith}
 use native.Mathlib.Decide.{decLt}
 use borrow.Author.Needs.{needs}
 use borrow.Author.Tests.{eqb-true, eqb-false}
 use lib.Dec.{eqb}
-use lib.ListN.{length, getD}
+use lib.ListN.{length}
 use Rattle.meaning.proofs.Logic.{or-left, or-right, false-true}
 use Rattle.bits.specs.Sets.{has, Next, United}
 use Rattle.bits.proofs.Words.{either-has}

@@ -20,12 +20,11 @@ use Rattle.meaning.specs.Values.{pattern₀, patternAt, numberAt, numbers}
 use Rattle.meaning.proofs.Logic.{and-true-left, and-true-right, and-both, false-true}
 use Rattle.bits.specs.Sets.{size, bitAt, has}
 use Rattle.runs.specs.Limits.{patternSize, rowSize}
-use Rattle.runs.specs.Runs.{rowCount, symbolIn, countIn, argIn, argsIn, rowIn, rowsOf, patternCount, headIn, patternCountIn, patternArgIn, patternArgsIn, patternIn, patternsOf}
+use Rattle.runs.specs.Runs.{rowCount, symbolIn, countIn, argIn, argsIn, rowIn, patternCount, headIn, patternCountIn, patternArgIn, patternArgsIn}
 use Rattle.runs.proofs.Saying.{length-rows, rows-at, patterns-at, arg-at, args-length, row-length, pattern-symbol}
 use Rattle.matching.specs.Possible.{Possible, may}
 use Rattle.matching.specs.InWords.{possibleOf}
 use Rattle.matching.specs.Steps.{fits, fitting, reached, fixed}
-use Rattle.matching.specs.Sound.{In}
 use Rattle.matching.proofs.Numbers.{Held, Free}
 use Rattle.matching.proofs.Numbered.{Numbered}
 use Rattle.matching.proofs.Sets.{row-here, row-there}
@@ -33,9 +32,9 @@ use Rattle.matching.proofs.Upward.{upward-in}
 use Rattle.matching.proofs.Pruning.{told}
 use Rattle.search_sets.specs.Places.{knownAt, outsideAt, possibleIn}
 use Rattle.search_sets.specs.Keeps.{Setting, Fits, AllowedIn, Keeps}
-use Rattle.search_sets.specs.Words.{Changed, Told}
+use Rattle.search_sets.specs.Words.{Told}
 use Rattle.search_sets.specs.Rising.{RowsOf, Symbol, FitsIn, Fitting, Gathered, PatternAsk, KnownArgs, FixedArg, FixedArgs, KnownSymbol}
-use Rattle.search_sets.proofs.Changed.{Allowed, num, sets-apart, changed-then, changed-told, has-same, row-anew}
+use Rattle.search_sets.proofs.Changed.{Allowed, sets-apart, changed-then, changed-told, has-same, row-anew}
 
 -- ---- arguments, place by place
 

@@ -1,4 +1,9 @@
 -- The classes of the arguments of context rows that fit and have a class of the row, put into the scratch.
+--     table-yes, table-no        whether a context row is such
+--     grown-same                 no bit is taken
+--     put-few .. put-arg         one argument of one context row
+--     Adding, adds-start .. adds-row     all of its arguments
+--     see-ask .. see-no, Seeing, seen-start .. seen-long   one context row; all of them
 -- Assumes nothing.
 use mathlib.Core.Bool.{Bool, true, false, _||_}
 use mathlib.Core.List.{List}
@@ -12,7 +17,7 @@ use lib.ListN.{length, getD}
 use Rattle.meaning.proofs.Logic.{false-true, or-none}
 use Rattle.bits.specs.Sets.{bitAt, has}
 use Rattle.runs.specs.Limits.{argPlaces}
-use Rattle.runs.specs.Runs.{rowCount, countIn, argIn, patternCount}
+use Rattle.runs.specs.Runs.{rowCount, countIn, argIn}
 use Rattle.runs.specs.Fit.{Decides}
 use Rattle.search_sets.specs.Words.{Added, Grown}
 use Rattle.search_sets.specs.Rising.{RowAsk, FitsIn}

@@ -9,29 +9,28 @@ use mathlib.Core.Logic.{_⊎_, inl, inr}
 use Prim.Native.Nat.{ℕ, _+_, _*_, _≤_, _<_}
 use native.Mathlib.Omega.{arith}
 use borrow.Author.Needs.{needs}
-use borrow.Author.Tests.{eqb-true, eqb-false}
+use borrow.Author.Tests.{eqb-true}
 use lib.Dec.{eqb}
 use lib.ListN.{length, getD}
 use Rattle.meaning.specs.Context.{Row}
 use Rattle.meaning.specs.Rules.{Below}
-use Rattle.meaning.specs.Values.{numberAt, numbers, argsOf}
+use Rattle.meaning.specs.Values.{numberAt, numbers}
 use Rattle.meaning.proofs.Logic.{and-both, false-true}
 use Rattle.bits.specs.Sets.{bitAt, has}
 use Rattle.bits.proofs.Words.{both-has}
 use Rattle.runs.specs.Limits.{argPlaces}
-use Rattle.runs.specs.Runs.{rowCount, countIn, argIn, argsIn, patternCount, headIn, patternCountIn, patternArgIn, patternArgsIn}
-use Rattle.matching.specs.Sound.{In}
+use Rattle.runs.specs.Runs.{rowCount, countIn, argIn, patternCount, headIn, patternCountIn, patternArgIn, patternArgsIn}
 use Rattle.matching.proofs.Allows.{in-low, in-inside}
 use Rattle.matching.proofs.Numbers.{Held, Free}
 use Rattle.matching.proofs.Numbered.{Numbered, free-high, held-fits}
 use Rattle.matching.proofs.Upward.{args-at}
 use Rattle.matching.proofs.Pruning.{told}
 use Rattle.search_sets.specs.Places.{knownAt, outsideAt, possibleIn}
-use Rattle.search_sets.specs.Keeps.{Setting, Fits, AllowedIn, Keeps, None, Steps}
+use Rattle.search_sets.specs.Keeps.{Setting, Fits, AllowedIn, Steps}
 use Rattle.search_sets.specs.Words.{Changed, Cleared, Cuttable, CutRow}
 use Rattle.search_sets.specs.Rising.{RowsOf, Symbol, PatternAsk, FitsIn, KnownArgs, KnownSymbol}
 use Rattle.search_sets.specs.Sinking.{SinkAsk, TableRow, Seen, Looked, InMore, CutArgAsk, CutsArg, CutsArgs, CutsAsk, InsideBy, Inside, Enters}
-use Rattle.search_sets.proofs.Changed.{Allowed, num, sets-apart, sides-apart, row-anew, row-number}
+use Rattle.search_sets.proofs.Changed.{sets-apart, sides-apart, row-anew, row-number}
 use Rattle.search_sets.proofs.Variables.{keeps-same}
 use Rattle.search_sets.proofs.Arguments.{ArgTo}
 use Rattle.search_sets.proofs.Risen.{over-long, over-at, pattern-is, row-is, rows-long, entry-is, fits-in}

@@ -1,25 +1,25 @@
--- A row that is a symbol: what is asked of each function on the way, and each loop's start, turn and end.
+-- A row that is a symbol, and whether a context row fits it.
+--     symbol-again, row-ask .. arg-set   what is asked, once it is asked of more
+--     arg-room, arg-fits         an argument's set, and the class in it
+--     head-yes .. head-row       whether the symbols and the counts are the same
+--     FitsTo, fits-start .. fits-misfit  whether the arguments fit, one by one
 -- Assumes nothing.
-use mathlib.Core.Bool.{Bool, true, false, not, _&&_, _||_}
+use mathlib.Core.Bool.{Bool, true, false, not}
 use mathlib.Core.List.{List}
 use mathlib.Core.Path.{_≡_, refl, ap, sym, _∙_, subst}
-use mathlib.Core.Logic.{_⊎_, inl, inr}
-use Prim.Native.Nat.{ℕ, _+_, _*_, _/_, _%_, _≤_, _<_}
+use Prim.Native.Nat.{ℕ, _+_, _*_, _/_, _≤_, _<_}
 use native.Mathlib.Omega.{arith}
-use native.Mathlib.Decide.{decLt}
 use borrow.Author.Needs.{needs}
-use borrow.Author.Tests.{eqb-true, eqb-false, eq-eqb, ne-eqb, not-true}
+use borrow.Author.Tests.{eqb-true, eqb-false, eq-eqb, not-true}
 use lib.Dec.{eqb}
 use lib.ListN.{length, getD}
-use Rattle.meaning.proofs.Logic.{false-true, or-cases}
-use Rattle.bits.specs.Sets.{bitAt, has, Low, Next}
-use Rattle.runs.specs.Limits.{argPlaces, patternSize}
+use Rattle.meaning.proofs.Logic.{false-true}
+use Rattle.bits.specs.Sets.{has}
+use Rattle.runs.specs.Limits.{argPlaces}
 use Rattle.runs.specs.Runs.{rowCount, symbolIn, countIn, argIn, patternCount, headIn, patternCountIn, patternArgIn}
-use Rattle.runs.specs.Fit.{Decides, Every, PlacedAt, RowAt}
-use Rattle.search_sets.specs.Places.{knownAt, outsideAt, RowIn}
-use Rattle.search_sets.specs.Words.{Changed, Single, Cleared, Added}
-use Rattle.search_sets.specs.Rising.{Symbol, SameHead, RowAsk, HeadAsk, ArgAsk, ArgFits, FitsIn, Joins, Fitting, Gathered, PatternAsk, KnownArgs, FixedArg, FixedAt, FixedArgs}
-use Rattle.search_sets.proofs.Changed.{sets-apart, changed-then, changed-region, has-same}
+use Rattle.runs.specs.Fit.{Decides}
+use Rattle.search_sets.specs.Rising.{Symbol, SameHead, RowAsk, HeadAsk, ArgAsk, ArgFits, FitsIn}
+use Rattle.search_sets.proofs.Changed.{sets-apart}
 
 -- ---- what is asked
 

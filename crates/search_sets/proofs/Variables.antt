@@ -1,26 +1,30 @@
 -- A row that is a variable, and the variable's candidates: what is asked, and what is promised.
+--     variable-places, variable-places-back, variable-room    where the words of both stand
+--     row-keeps                  the row from the candidates
+--     keeps-same                 nothing is changed
+--     cut-unknown, cut-steps     the candidates by the row
 -- Assumes nothing.
 use mathlib.Core.Bool.{Bool, true, false}
 use mathlib.Core.List.{List}
-use mathlib.Core.Path.{_≡_, refl, ap, sym, _∙_, subst}
+use mathlib.Core.Path.{_≡_, refl, ap, sym, _∙_}
 use mathlib.Core.Logic.{inl, inr}
 use Prim.Native.Nat.{ℕ, _+_, _*_, _≤_, _<_}
 use native.Mathlib.Omega.{arith}
 use borrow.Author.Needs.{needs}
 use lib.ListN.{length, getD}
 use Rattle.meaning.specs.Rules.{variable}
-use Rattle.meaning.specs.Values.{patternAt, numberAt, numbers}
+use Rattle.meaning.specs.Values.{numberAt, numbers}
 use Rattle.meaning.proofs.Logic.{and-both, false-true}
 use Rattle.bits.specs.Sets.{bitAt, has, Places, Met}
 use Rattle.bits.proofs.Words.{both-has}
-use Rattle.matching.specs.Possible.{Possible, put}
+use Rattle.matching.specs.Possible.{Possible}
 use Rattle.matching.specs.InWords.{possibleOf}
 use Rattle.matching.specs.Steps.{upward, upwardBy, choosable, choosableBy}
 use Rattle.matching.proofs.Numbered.{Numbered}
 use Rattle.matching.proofs.Pruning.{told}
 use Rattle.matching.proofs.Rounds.{upward-keeping, choosable-keeping}
-use Rattle.search_sets.specs.Places.{knownAt, outsideAt, possibleIn, Room, VariableIn}
-use Rattle.search_sets.specs.Keeps.{Setting, Fits, AllowedIn, Keeps, None, Steps, VariableRow}
+use Rattle.search_sets.specs.Places.{knownAt, possibleIn, VariableIn}
+use Rattle.search_sets.specs.Keeps.{Setting, Fits, AllowedIn, Keeps, Steps, VariableRow}
 use Rattle.search_sets.specs.Words.{Copied, Told, Left}
 use Rattle.search_sets.proofs.Changed.{Allowed, sets-apart, changed-then, changed-region, changed-told, has-same, has-drop, put-allows, sift-allows}
 

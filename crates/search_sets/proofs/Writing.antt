@@ -1,4 +1,11 @@
 -- One law for each way into a loop that writes words, each turn and each way out; flags.
+--     set-small                              a place fits its type
+--     copied-start .. copied-end             words copied
+--     flag-on, flag-off, told-both           one bit as told; both flags of a row
+--     both-first, both-second, left-low      flags and sets read
+--     cleared-start .. cleared-end, added    a set without a member, and a member put in
+--     narrowed, narrowable-again, paired     a row met with another; each of two
+--     with-start .. with-end, cut-room, row-cut    a set, and a row, cut to a set of another run
 -- Assumes nothing.
 use mathlib.Core.Bool.{Bool, true, false, not, _&&_, _||_}
 use mathlib.Core.List.{List}

@@ -7,14 +7,14 @@
 --     Steps             a step that answers whether a breach can be left
 --     VariableRow, EqualRows    settings in which a row is a variable; in which a literal equates two rows
 -- Assumes nothing.
-use mathlib.Core.Bool.{Bool, true, false}
+use mathlib.Core.Bool.{Bool, false}
 use mathlib.Core.List.{List}
 use mathlib.Core.Path.{_≡_}
 use Prim.Native.Nat.{ℕ, _*_, _≤_, _<_}
 use lib.ListN.{length}
 use Rattle.meaning.specs.Context.{Row}
 use Rattle.meaning.specs.Rules.{Clause, variable, equal, variables}
-use Rattle.meaning.specs.Formed.{AllPlaced, NamesAll}
+use Rattle.meaning.specs.Formed.{AllPlaced}
 use Rattle.meaning.specs.Grounds.{literalAt}
 use Rattle.meaning.specs.Values.{patternAt}
 use Rattle.meaning.proofs.Pruned.{Sought}
@@ -35,7 +35,6 @@ pub record Fits (count width : ℕ) (s : Setting) : Type 0 where
   pub table : Table (s .rows) (s .rep) (s .bound) (s .offset)
   pub within : s .bound ≤ width * 64
   pub placed : AllPlaced 0 (s .rule .patterns)
-  pub named : NamesAll (length (s .rule .patterns)) (s .rule .literals)
   pub counted : length (s .rule .patterns) ≡ count
   pub few : variables (s .rule .patterns) ≤ mostVariables
 

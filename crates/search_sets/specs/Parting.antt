@@ -10,7 +10,7 @@
 use mathlib.Core.Bool.{Bool, true}
 use mathlib.Core.List.{List}
 use mathlib.Core.Path.{_≡_}
-use Prim.Native.Nat.{ℕ, _+_, _*_, _≤_, _<_}
+use Prim.Native.Nat.{ℕ, _*_, _≤_, _<_}
 use lib.ListN.{length, getD}
 use Rattle.meaning.specs.Rules.{unequal}
 use Rattle.meaning.specs.Grounds.{literalAt}
