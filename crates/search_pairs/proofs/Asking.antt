@@ -2,6 +2,7 @@
 --     read-set, read-room                  one set read
 --     open-same .. open-right              whether the equation has to be followed
 --     settled-apart .. settled-tried       the answer for two classes
+--     classes-two, rows-classes            what following an equation asks, and what two classes ask
 --     asked-left, asked-right, asked-so    and for any two numbers
 -- Assumes nothing.
 use mathlib.Core.Bool.{Bool, true, false, not}
@@ -24,7 +25,7 @@ use Rattle.bits.specs.Sets.{has}
 use Rattle.runs.specs.Runs.{rowCount, rowsOf, contextOf}
 use Rattle.runs.proofs.Saying.{length-rows}
 use Rattle.search_pairs.specs.Ready.{wordsFor, mostWords, besideAt, apartAt, liveAt, Ready}
-use Rattle.search_pairs.specs.Steps.{setsSize, Inside, Blank, Ends, Open, Settled, Asked, Followed}
+use Rattle.search_pairs.specs.Steps.{setsSize, Laid, Inside, Blank, Classes, TwoClasses, Open, Settled, Asked, Followed}
 use Rattle.search_pairs.proofs.Beside.{same-differ, beside-differ}
 use Rattle.search_pairs.proofs.Live.{live-differ}
 use Rattle.search_pairs.proofs.Joining.{set-inside}
@@ -54,7 +55,13 @@ module _ (n : ℕ) (sets : List ℕ) (x y : ℕ) where
 
 -- ---- two classes
 
-module _ (rows table sets : List ℕ) (x y : ℕ) (labels work : List ℕ) (blank : Blank (rowCount rows) labels work) (h : (x < rowCount rows) × (y < rowCount rows)) where
+module _ (rows table sets : List ℕ) (x y : ℕ) (labels work : List ℕ) (w : Classes rows table sets labels work x y) where
+  blank : Blank (rowCount rows) labels work
+  blank = w .blank
+
+  h : (x < rowCount rows) × (y < rowCount rows)
+  h = (w .left, w .right)
+
   inner : {a : ℕ} → a < rowCount rows → a < length (rowsOf rows)
   inner l = omega (arith, length-rows rows)
 
@@ -101,11 +108,28 @@ few-at n m e h = subst (λ (v : ℕ). wordsFor v ≤ mostWords) (sym e) h
 pub pair-at : (n m x y : ℕ) → n ≡ m → (x < m) × (y < m) → (x < n) × (y < n)
 pair-at n m x y e h = (omega (arith, h .0), omega (arith, h .1))
 
-pub ends-at : (m n : ℕ) (sets : List ℕ) (x y : ℕ) (r : Bool) → (x < m) × (y < m) → Open n sets x y r → not r ≡ false → Ends m x y
-ends-at m n sets x y r h o f = record { left = h .0; right = h .1; other = o .other (not-false r f) }
+pub classes-two : (rows table sets labels work : List ℕ) (x y n : ℕ) (r : Bool) → Classes rows table sets labels work x y → Open n sets x y r → not r ≡ false
+    → TwoClasses rows table sets labels work x y
+classes-two rows table sets labels work x y n r w o f =
+    record {
+      laid = w .laid;
+      inside = w .inside;
+      room = w .room;
+      blank = w .blank;
+      ends = record { left = w .left; right = w .right; other = o .other (not-false r f) };
+    }
 
-pub rows-at : (m n : ℕ) (table : List ℕ) (a b x y : ℕ) → n ≡ m → Inside m table → a < n → b < n → x ≡ repAt table a → y ≡ repAt table b → (x < m) × (y < m)
-rows-at m n table a b x y en inside ha hb ex ey = (omega (arith, inside .each a (omega arith)), omega (arith, inside .each b (omega arith)))
+pub rows-classes : (rows table sets labels work : List ℕ) (a b x y n : ℕ) → Laid rows → Inside (rowCount rows) table → setsSize (rowCount rows) ≤ length sets
+    → Blank (rowCount rows) labels work → n ≡ rowCount rows → a < n → b < n → x ≡ repAt table a → y ≡ repAt table b → Classes rows table sets labels work x y
+rows-classes rows table sets labels work a b x y n laid inside room blank en ha hb ex ey =
+    record {
+      laid = laid;
+      inside = inside;
+      room = room;
+      blank = blank;
+      left = omega (arith, inside .each a (omega arith));
+      right = omega (arith, inside .each b (omega arith));
+    }
 
 pub settled-tried : (rows table sets : List ℕ) (x y : ℕ) (labels work labels′ work′ : List ℕ) (n : ℕ) (r : Bool) → n ≡ rowCount rows → Followed rows table sets x y labels work r
     → Blank n labels′ work′ → Settled rows table sets x y labels′ work′ r
@@ -147,6 +171,8 @@ pub ruleset mine = (
   settled-apart,
   settled-shut,
   settled-tried,
+  classes-two,
+  rows-classes,
   asked-left,
   asked-right,
   asked-so,

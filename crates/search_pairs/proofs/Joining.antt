@@ -3,6 +3,7 @@
 --     Parting, Clearing                 members that were looked at are not kept apart
 --     Marking, Relabelling              members whose rows are marked, and members that have their new label
 --     Weighing                          the rows over a class counted
+--     meets-space .. meets-less         what two labels ask
 --     lower-joined, joined-turned       two labels made one, either way round
 --     meeting-clash, meeting-joined     or members kept apart
 -- Assumes nothing.
@@ -17,7 +18,7 @@ use native.Mathlib.Decide.{decLt, ℕ-discrete}
 use borrow.Author.Needs.{needs}
 use borrow.Author.Tests.{eq-eqb}
 use lib.Dec.{eqb}
-use lib.ListN.{length, getD, set, length-set}
+use lib.ListN.{length, set, length-set}
 use lib.Seq.{getD-set-same, getD-set-other}
 use Rattle.meaning.specs.Equality.{repAt}
 use Rattle.meaning.specs.Closing.{move}
@@ -27,7 +28,7 @@ use Rattle.bits.specs.Sets.{size, bitAt, has, United}
 use Rattle.bits.proofs.Words.{either-has, has-on}
 use Rattle.bits.proofs.Members.{size-most}
 use Rattle.search_pairs.specs.Ready.{wordsFor, mostWords, overAt, apartAt}
-use Rattle.search_pairs.specs.Steps.{Space, Labelled, setsSize, markedAt, movedAt, Member, ApartFrom, Labels, Clashing, Marked, Moved, Joined, Meeting}
+use Rattle.search_pairs.specs.Steps.{Space, Labelled, setsSize, markedAt, movedAt, Member, ApartFrom, Labels, Clashing, Marked, Moved, Joined, Meets, Meeting}
 use Rattle.search_pairs.proofs.Members.{Walk, walk-start, walk-step, walk-less, walk-done}
 
 -- ---- where a set stands
@@ -290,10 +291,31 @@ module _ (n : ℕ) (sets labels work : List ℕ) (lo hi z : ℕ) where
       there : (length work′ ≡ length work₁) × ((j : ℕ) → has work′ 0 j ≡ (has work₁ 0 j || eqb j (wordsFor n * 64 + hi)))
       there = (put .0, λ j. put .1 j ∙ ap (λ (v : ℕ). has work₁ 0 j || eqb j v) (ek ∙ ap (λ (v : ℕ). v * 64 + hi) ew))
 
--- either way round
-pub labels-turned : (n : ℕ) (labels : List ℕ) (x y : ℕ) → Labels n labels x y → Labels n labels y x
-labels-turned n labels x y l = record { left = l .right; right = l .left; left-own = l .right-own; right-own = l .left-own }
+-- what two labels ask
+module _ (n : ℕ) (sets labels work : List ℕ) (x y : ℕ) (w : Meets n sets labels work x y) where
+  pub meets-space : Space n labels work
+  meets-space = w .space
 
+  pub meets-laid : Labelled n labels work
+  meets-laid = w .laid
+
+  pub meets-labels : Labels n labels x y
+  meets-labels = w .labels-there
+
+  pub meets-turned : Labels n labels y x
+  meets-turned = record { left = w .labels-there .right; right = w .labels-there .left; left-own = w .labels-there .right-own; right-own = w .labels-there .left-own }
+
+  pub meets-room : setsSize n ≤ length sets
+  meets-room = w .room
+
+  pub meets-less : y ≤ x → y < x
+  meets-less h = go (ℕ-discrete y x)
+    where
+      go : Dec (y ≡ x) → y < x
+      go (yes e) = absurd (w .other (sym e))
+      go (no d) = omega arith
+
+-- either way round
 pub joined-turned : (n : ℕ) (sets : List ℕ) (x y : ℕ) (labels work labels′ work′ : List ℕ) → Joined n sets y x labels work labels′ work′ → Joined n sets x y labels work labels′ work′
 joined-turned n sets x y labels work labels′ work′ j =
     record {
@@ -332,7 +354,7 @@ module _ (n : ℕ) (sets : List ℕ) (x y : ℕ) (labels work : List ℕ) where
         joined = λ _. j;
       }
 
-pub ruleset joins = (needs, weighing-start, weighing-inside, weighing-fits, weighing-step, lower-picked, lower-space, lower-laid, lower-joined, labels-turned, joined-turned, meeting-clash, meeting-joined)
+pub ruleset joins = (needs, weighing-start, weighing-inside, weighing-fits, weighing-step, lower-picked, lower-space, lower-laid, lower-joined, meets-space, meets-laid, meets-labels, meets-turned, meets-room, meets-less, joined-turned, meeting-clash, meeting-joined)
 
 pub ruleset mine = (
   needs,

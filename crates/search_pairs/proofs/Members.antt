@@ -2,7 +2,7 @@
 --     Walk                              the members before a place have been seen
 --     walk-start, walk-step, walk-done  from the label on, one member more, and all
 -- Assumes nothing.
-use mathlib.Core.Bool.{true, false}
+use mathlib.Core.Bool.{true}
 use mathlib.Core.List.{List}
 use mathlib.Core.Path.{_≡_, ap, sym, _∙_}
 use mathlib.Core.Logic.{_⊎_, ⊎-elim}

@@ -10,8 +10,7 @@ use mathlib.Core.Bool.{Bool, true, false, _&&_, _||_, not}
 use mathlib.Core.List.{List, [], _∷_, _++_}
 use mathlib.Core.Path.{_≡_, refl, ap, ap₂, sym, _∙_, subst}
 use mathlib.Core.Logic.{_⊎_, inl, inr, ⊎-elim}
-use Prim.Native.Nat.{ℕ, _+_, _*_, _≤_, _<_}
-use native.Mathlib.Numerals.{add-one}
+use Prim.Native.Nat.{ℕ, suc, _+_, _*_, _≤_, _<_}
 use native.Mathlib.Omega.{arith}
 use native.Mathlib.Decide.{decLt}
 use borrow.Author.Needs.{needs}
@@ -247,9 +246,10 @@ apart-next : (rep : ℕ → ℕ) (said : List ℕ) (k a b : ℕ)
     → apartBy rep (differencesOf (each (statementIn said) (k + 1))) a b ≡ (apartBy rep (differencesOf (each (statementIn said) k)) a b || apartBy rep (differencesOf (statementIn said k ∷ [])) a b)
 unfolding each
 apart-next rep said k a b =
-    rw add-one
-    (ap (λ (l : List (ℕ × ℕ)). apartBy rep l a b) (differences-append (each (statementIn said) k) (statementIn said k ∷ []))
-    ∙ apart-append rep (differencesOf (each (statementIn said) k)) (differencesOf (statementIn said k ∷ [])) a b)
+    let z : k + 1 ≡ suc k = omega arith in
+    ap (λ (v : ℕ). apartBy rep (differencesOf (each (statementIn said) v)) a b) z
+    ∙ ap (λ (l : List (ℕ × ℕ)). apartBy rep l a b) (differences-append (each (statementIn said) k) (statementIn said k ∷ []))
+    ∙ apart-append rep (differencesOf (each (statementIn said) k)) (differencesOf (statementIn said k ∷ [])) a b
 
 says-equal : (rep : ℕ → ℕ) (said : List ℕ) (k a b : ℕ) → kindIn said k ≡ 2 → apartBy rep (differencesOf (statementIn said k ∷ [])) a b ≡ false
 unfolding statementOf differencesOf apartBy

@@ -1,5 +1,6 @@
 -- One equation followed, step by step.
 --     labelled-joined, joined-less      labels after a join, and how much is left
+--     turn-meets, blank-meets           what joining two labels asks, at a row and at the start
 --     turn-none, turn-met               a row that nothing agrees with; two labels joined, or members kept apart
 --     Going                             what holds between two steps
 -- Assumes nothing.
@@ -30,7 +31,7 @@ use Rattle.bits.proofs.Members.{size-most, size-less}
 use Rattle.runs.specs.Runs.{rowCount, rowsOf, contextOf}
 use Rattle.runs.proofs.Saying.{length-rows}
 use Rattle.search_pairs.specs.Ready.{argOf, argCount, wordsFor, apartAt, Ready}
-use Rattle.search_pairs.specs.Steps.{Two, Way, Space, Labelled, setsSize, Inside, Labels, labelBy, agreeBy, markedAt, movedAt, Clashing, Joined, Meeting, Mate, remaining, Turned, SameSymbol, SameArgs, Blank, Ends, Followed}
+use Rattle.search_pairs.specs.Steps.{Meets, Two, Way, Space, Labelled, setsSize, Inside, Labels, labelBy, markedAt, movedAt, Clashing, Joined, Meeting, Mate, remaining, Turned, SameSymbol, SameArgs, Blank, Ends, Followed, Laid, TurnAt}
 use Rattle.search_pairs.proofs.Rows.{agreeBy-true, agreeBy-so}
 use Rattle.search_pairs.proofs.Ways.{way-start, way-join, way-clash, way-equal, way-unmark, way-done}
 
@@ -221,6 +222,17 @@ module _ (rows table sets labels work : List ℕ) (r s : ℕ) (space : Space (ro
   pub turn-other : (n x y : ℕ) → n ≡ rowCount rows → s < n → x ≡ labelBy table labels r → y ≡ labelBy table labels s → x ≡ y → ⊥
   turn-other n x y en h ex ey e = mate .other (omega arith) (sym ex ∙ e ∙ ey)
 
+  pub turn-meets : (n x y : ℕ) → Inside (rowCount rows) table → setsSize (rowCount rows) ≤ length sets → n ≡ rowCount rows → s < n → x ≡ labelBy table labels r → y ≡ labelBy table labels s
+      → Meets n sets labels work x y
+  turn-meets n x y inside room en h ex ey =
+      record {
+        space = space-at n (rowCount rows) labels work en space;
+        laid = laid-at n (rowCount rows) labels work en laid;
+        room = room-at n (rowCount rows) (length sets) en room;
+        labels-there = turn-labels n x y inside en h ex ey;
+        other = turn-other n x y en h ex ey;
+      }
+
   pub turn-met : (n x y : ℕ) (labels′ work′ : List ℕ) (b : Bool) → Inside (rowCount rows) table → n ≡ rowCount rows → s < n → x ≡ labelBy table labels r → y ≡ labelBy table labels s
       → Meeting n sets x y labels work labels′ work′ b → Turned rows table sets labels work labels′ work′ b
   turn-met n x y labels′ work′ b inside en h ex ey m = go b refl (subst (λ (v : ℕ). Meeting v sets x y labels work labels′ work′ b) en m)
@@ -273,6 +285,16 @@ pub record Going (rows table sets : List ℕ) (x y n w : ℕ) (labels work : Lis
 pub blank-laid : (n : ℕ) (labels work : List ℕ) → Blank n labels work → Labelled n labels work
 blank-laid n labels work b =
     record { low = λ a h. omega (arith, b .own a h); own = λ a h. rw (b .own a h) (b .own a h); moved = λ a h. inl (b .own a h) }
+
+pub blank-meets : (m n : ℕ) (sets labels work : List ℕ) (x y : ℕ) → n ≡ m → Blank m labels work → Ends m x y → setsSize m ≤ length sets → Meets n sets labels work x y
+blank-meets m n sets labels work x y en b d room =
+    record {
+      space = space-at n m labels work en (b .space);
+      laid = laid-at n m labels work en (blank-laid m labels work b);
+      room = room-at n m (length sets) en room;
+      labels-there = blank-labels n m labels work x y en b d;
+      other = d .other;
+    }
 
 pub going-start : (rows table sets : List ℕ) (x y n w : ℕ) (labels work labels′ work′ : List ℕ) (b : Bool) → n ≡ rowCount rows → w ≡ wordsFor n → Blank (rowCount rows) labels work
     → Ends (rowCount rows) x y → Meeting n sets x y labels work labels′ work′ b → b ≡ false → Going rows table sets x y n w labels′ work′
@@ -392,7 +414,16 @@ module _ (rows table sets : List ℕ) (x y n w : ℕ) (labels work : List ℕ) (
       inner : {a : ℕ} → a < rowCount rows → a < length (rowsOf rows)
       inner k = omega (arith, length-rows rows)
 
-  pub going-marked : (r : ℕ) → Low work 0 w r → r < n → (r < rowCount rows) × (markedAt work r ≡ true)
-  going-marked r low h = (omega (arith, g .count), low .here (omega (arith, g .words)))
+  pub going-turn : (r : ℕ) → Laid rows → Inside (rowCount rows) table → setsSize (rowCount rows) ≤ length sets → Low work 0 w r → r < n → TurnAt rows table sets labels work r
+  going-turn r rows-laid inside room low h =
+      record {
+        rows-laid = rows-laid;
+        inside = inside;
+        room = room;
+        space = g .space;
+        laid = g .laid;
+        row = omega (arith, g .count);
+        marked = low .here (omega (arith, g .words));
+      }
 
-pub ruleset mine = (needs, turn-none, turn-labels, turn-other, turn-met, blank-laid, going-start, going-apart, going-step, going-clash, going-less, going-done, going-marked)
+pub ruleset mine = (needs, turn-none, turn-labels, turn-other, turn-met, blank-laid, going-start, going-apart, going-step, going-clash, going-less, going-done, going-turn)

@@ -10,9 +10,10 @@
 --     ApartFrom, Labels, Clashing    members of labels kept apart
 --     Marked, Moved                  rows marked, and labels changed
 --     Joined                         two labels made one
---     Meeting                        or members of them are kept apart
---     remaining, Turned              how much is left to do, and one step
---     Ends, Blank, Followed            labels before and after, and an equation that was followed
+--     Meets, Meeting                 or members of them are kept apart
+--     remaining, TurnAt, Turned      how much is left to do, and one step
+--     Ends, Blank, Followed          labels before and after, and an equation that was followed
+--     Classes, TwoClasses            what two classes ask, and the equation of two
 --     Owned                          labels taken back
 --     Open, Settled, Asked           whether an equation has to be followed; the answer for two classes, and for any two numbers
 -- Assumes nothing.
@@ -183,6 +184,14 @@ pub record Joined (n : ℕ) (sets : List ℕ) (x y : ℕ) (labels work labels′
   pub others : (a : ℕ) → movedAt n work a ≡ true → movedAt n work′ a ≡ true
   pub known : movedAt n work′ hi ≡ true
 
+-- two labels that are to become one
+pub record Meets (n : ℕ) (sets labels work : List ℕ) (x y : ℕ) : Type 0 where
+  pub space : Space n labels work
+  pub laid : Labelled n labels work
+  pub room : setsSize n ≤ length sets
+  pub labels-there : Labels n labels x y
+  pub other : x ≡ y → ⊥
+
 -- the labels x and y become one, or the answer is that members of them are kept apart
 pub record Meeting (n : ℕ) (sets : List ℕ) (x y : ℕ) (labels work labels′ work′ : List ℕ) (b : Bool) : Type 0 where
   pub clash : b ≡ true → Clashing n sets labels x y true
@@ -194,6 +203,16 @@ pub record Meeting (n : ℕ) (sets : List ℕ) (x y : ℕ) (labels work labels�
 -- the labels fall, or else the marks
 unfoldable pub remaining : ℕ → List ℕ → List ℕ → ℕ
 remaining n labels work = total n (repAt labels) * suc (wordsFor n * 64) + size (wordsFor n * 64) (markedAt work)
+
+-- row r is marked, and can be looked at
+pub record TurnAt (rows table sets labels work : List ℕ) (r : ℕ) : Type 0 where
+  pub rows-laid : Laid rows
+  pub inside : Inside (rowCount rows) table
+  pub room : setsSize (rowCount rows) ≤ length sets
+  pub space : Space (rowCount rows) labels work
+  pub laid : Labelled (rowCount rows) labels work
+  pub row : r < rowCount rows
+  pub marked : markedAt work r ≡ true
 
 -- one marked row looked at: nothing agrees with it, and it is marked no more; or labels were joined; or the answer is that sides became equal
 pub record Turned (rows table sets labels work labels′ work′ : List ℕ) (b : Bool) : Type 0 where
@@ -218,6 +237,23 @@ pub record Blank (n : ℕ) (labels work : List ℕ) : Type 0 where
   pub space : Space n labels work
   pub own : (a : ℕ) → a < n → repAt labels a ≡ a
   pub none : (j : ℕ) → getD work j 0 ≡ 0
+
+-- two classes to be asked for
+pub record Classes (rows table sets labels work : List ℕ) (x y : ℕ) : Type 0 where
+  pub laid : Laid rows
+  pub inside : Inside (rowCount rows) table
+  pub room : setsSize (rowCount rows) ≤ length sets
+  pub blank : Blank (rowCount rows) labels work
+  pub left : x < rowCount rows
+  pub right : y < rowCount rows
+
+-- and whose equation is to be followed
+pub record TwoClasses (rows table sets labels work : List ℕ) (x y : ℕ) : Type 0 where
+  pub laid : Laid rows
+  pub inside : Inside (rowCount rows) table
+  pub room : setsSize (rowCount rows) ≤ length sets
+  pub blank : Blank (rowCount rows) labels work
+  pub ends : Ends (rowCount rows) x y
 
 -- the equation of the classes x and y followed
 pub record Followed (rows table sets : List ℕ) (x y : ℕ) (labels work : List ℕ) (b : Bool) : Type 0 where

@@ -8,12 +8,7 @@ use bits::lowest;
 use bits::next;
 use bits::remove;
 use runs::row_count;
-ghost use mathlib.Core.Bool.{true};
-ghost use mathlib.Core.Path.{_≡_};
-ghost use Prim.Native.Nat.{_<_, _≤_};
-ghost use lib.ListN.{length};
-ghost use Rattle.runs.specs.Runs.{rowCount};
-ghost use Rattle.search_pairs.specs.Steps.{Laid, Space, Labelled, setsSize, Inside, markedAt, Turned, Ends, Blank, Followed, Owned};
+ghost use Rattle.search_pairs.specs.Steps.{Space, Labelled, TurnAt, Turned, Blank, TwoClasses, Followed, Owned};
 
 // One marked row: where nothing agrees with it that has another label, it is marked no more; else the two labels become one. The answer is whether
 // members of them are kept apart.
@@ -25,12 +20,7 @@ fn turn(
     work: &mut [u64],
     r: usize,
 ) -> bool
-    requires { ⌜ Laid (now rows) ⌝ }
-    requires { ⌜ Inside (rowCount (now rows)) (now table) ⌝ }
-    requires { ⌜ setsSize (rowCount (now rows)) ≤ length (now sets) ⌝ }
-    requires { ⌜ Space (rowCount (now rows)) (now labels) (now work) ⌝ }
-    requires { ⌜ Labelled (rowCount (now rows)) (now labels) (now work) ⌝ }
-    requires { ⌜ (r < rowCount (now rows)) × (markedAt (now work) r ≡ true) ⌝ }
+    requires { ⌜ TurnAt (now rows) (now table) (now sets) (now labels) (now work) r ⌝ }
     ensures { λ b. ⌜ Turned (now (rows .entry)) (now (table .entry)) (now (sets .entry)) (now (labels .entry)) (now (work .entry)) (now (labels .exit)) (now (work .exit)) b ⌝ }
 {
     let n = row_count(rows);
@@ -54,11 +44,7 @@ pub(crate) fn follow(
     x: usize,
     y: usize,
 ) -> bool
-    requires { ⌜ Laid (now rows) ⌝ }
-    requires { ⌜ Inside (rowCount (now rows)) (now table) ⌝ }
-    requires { ⌜ setsSize (rowCount (now rows)) ≤ length (now sets) ⌝ }
-    requires { ⌜ Blank (rowCount (now rows)) (now labels) (now work) ⌝ }
-    requires { ⌜ Ends (rowCount (now rows)) x y ⌝ }
+    requires { ⌜ TwoClasses (now rows) (now table) (now sets) (now labels) (now work) x y ⌝ }
     ensures { λ b. ⌜ Followed (now (rows .entry)) (now (table .entry)) (now (sets .entry)) x y (now (labels .exit)) (now (work .exit)) b ⌝ }
 {
     let n = row_count(rows);

@@ -12,7 +12,7 @@ ghost use Prim.Native.Nat.{_+_, _*_, _<_, _≤_};
 ghost use lib.ListN.{length};
 ghost use Rattle.meaning.specs.Equality.{repAt};
 ghost use Rattle.search_pairs.specs.Ready.{wordsFor, mostWords};
-ghost use Rattle.search_pairs.specs.Steps.{Space, Labelled, setsSize, Member, ApartFrom, Clashing, Marked, Moved, Labels, Joined, Meeting};
+ghost use Rattle.search_pairs.specs.Steps.{Space, Labelled, setsSize, Member, ApartFrom, Clashing, Marked, Moved, Labels, Joined, Meets, Meeting};
 
 // The members of a word.
 const WORD: usize = 64;
@@ -166,11 +166,7 @@ fn lower(sets: &[u64], labels: &mut [u16], work: &mut [u64], n: usize, lo: usize
 
 // The labels x and y become one.
 fn join(sets: &[u64], labels: &mut [u16], work: &mut [u64], n: usize, x: usize, y: usize)
-    requires { ⌜ Space n (now labels) (now work) ⌝ }
-    requires { ⌜ Labelled n (now labels) (now work) ⌝ }
-    requires { ⌜ setsSize n ≤ length (now sets) ⌝ }
-    requires { ⌜ Labels n (now labels) x y ⌝ }
-    requires { ⌜ (x ≡ y → ⊥) ⌝ }
+    requires { ⌜ Meets n (now sets) (now labels) (now work) x y ⌝ }
     ensures { λ _. ⌜ Joined n (now (sets .entry)) x y (now (labels .entry)) (now (work .entry)) (now (labels .exit)) (now (work .exit)) ⌝ }
 {
     if x < y {
@@ -189,11 +185,7 @@ pub(crate) fn meet(
     x: usize,
     y: usize,
 ) -> bool
-    requires { ⌜ Space n (now labels) (now work) ⌝ }
-    requires { ⌜ Labelled n (now labels) (now work) ⌝ }
-    requires { ⌜ setsSize n ≤ length (now sets) ⌝ }
-    requires { ⌜ Labels n (now labels) x y ⌝ }
-    requires { ⌜ (x ≡ y → ⊥) ⌝ }
+    requires { ⌜ Meets n (now sets) (now labels) (now work) x y ⌝ }
     ensures { λ r. ⌜ Meeting n (now (sets .entry)) x y (now (labels .entry)) (now (work .entry)) (now (labels .exit)) (now (work .exit)) r ⌝ }
 {
     if clashing(sets, labels, work, n, x, y) {

@@ -18,7 +18,7 @@ ghost use Prim.Native.Nat.{_<_, _≤_};
 ghost use lib.ListN.{length};
 ghost use Rattle.runs.specs.Runs.{rowCount};
 ghost use Rattle.search_pairs.specs.Ready.{wordsFor, mostWords, besideAt, apartAt, liveAt};
-ghost use Rattle.search_pairs.specs.Steps.{Laid, setsSize, Inside, Blank, Ends, Open, Settled, Asked};
+ghost use Rattle.search_pairs.specs.Steps.{Laid, setsSize, Inside, Blank, Classes, TwoClasses, Open, Settled, Asked};
 
 // Whether the classes x and y are kept apart by a stated difference.
 fn kept_apart(sets: &[u64], n: usize, x: usize, y: usize) -> bool
@@ -79,11 +79,7 @@ fn tried(
     x: usize,
     y: usize,
 ) -> bool
-    requires { ⌜ Laid (now rows) ⌝ }
-    requires { ⌜ Inside (rowCount (now rows)) (now table) ⌝ }
-    requires { ⌜ setsSize (rowCount (now rows)) ≤ length (now sets) ⌝ }
-    requires { ⌜ Blank (rowCount (now rows)) (now labels) (now work) ⌝ }
-    requires { ⌜ Ends (rowCount (now rows)) x y ⌝ }
+    requires { ⌜ TwoClasses (now rows) (now table) (now sets) (now labels) (now work) x y ⌝ }
     ensures { λ r. ⌜ Settled (now (rows .entry)) (now (table .entry)) (now (sets .entry)) x y (now (labels .exit)) (now (work .exit)) r ⌝ }
 {
     let r = follow(rows, table, sets, labels, work, x, y);
@@ -101,11 +97,7 @@ fn settled(
     x: usize,
     y: usize,
 ) -> bool
-    requires { ⌜ Laid (now rows) ⌝ }
-    requires { ⌜ Inside (rowCount (now rows)) (now table) ⌝ }
-    requires { ⌜ setsSize (rowCount (now rows)) ≤ length (now sets) ⌝ }
-    requires { ⌜ Blank (rowCount (now rows)) (now labels) (now work) ⌝ }
-    requires { ⌜ (x < rowCount (now rows)) × (y < rowCount (now rows)) ⌝ }
+    requires { ⌜ Classes (now rows) (now table) (now sets) (now labels) (now work) x y ⌝ }
     ensures { λ r. ⌜ Settled (now (rows .entry)) (now (table .entry)) (now (sets .entry)) x y (now (labels .exit)) (now (work .exit)) r ⌝ }
 {
     let n = row_count(rows);

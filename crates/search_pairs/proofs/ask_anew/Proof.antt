@@ -1,6 +1,6 @@
 -- `search_pairs::ask_anew` meets its contract. A number that is no row; else the classes of the two rows.
 -- Assumes nothing.
-use Rattle.search_pairs.proofs.Asking.{rows-at, mine}
+use Rattle.search_pairs.proofs.Asking.{mine}
 use Rattle.search_pairs.proofs.ask_anew.Statement.{statement}
 use Rattle.search_pairs.proofs.ask_anew.Tie as tie
 
@@ -20,11 +20,7 @@ at-place-requires-2 : tie.Need-at-place-requires-2
 at-place-requires-2 c κs = search mine
 
 settled-requires : tie.Need-settled-requires
-settled-requires c κs =
-    let pre = c .before .before .before .before .before .before .before .before .before .before .before .before .pre in (
-      pre .0,
-      (pre .1 .0, (pre .1 .1 .0, (pre .1 .1 .1, rows-at _ _ _ _ _ _ _ (c .before .before .before .before .before .before .row-count .ensures) (pre .1 .0) (c .before .before .before .before .before .if1 .left) (c .before .before .before .before .if2 .left) (c .before .at-place .ensures) (c .at-place2 .ensures)))),
-    )
+settled-requires c κs = search mine
 
 same-length : tie.Need-same-length
 same-length c = search mine

@@ -1,7 +1,8 @@
 -- `search_pairs::settled` meets its contract. Kept apart, not open, or tried.
 -- Assumes nothing.
+use borrow.Author.Needs.{needs}
 use Rattle.search_pairs.proofs.Turning.{room-at}
-use Rattle.search_pairs.proofs.Asking.{few-at, pair-at, ends-at, mine}
+use Rattle.search_pairs.proofs.Asking.{few-at, pair-at, classes-two, mine}
 use Rattle.search_pairs.proofs.settled.Statement.{statement}
 use Rattle.search_pairs.proofs.settled.Tie as tie
 
@@ -12,7 +13,7 @@ kept-apart-requires : tie.Need-kept-apart-requires
 kept-apart-requires c κs =
     let pre = c .before .before .before .before .before .before .pre in
     let en = c .row-count .ensures in
-    (few-at _ _ en (pre .0 .room), (room-at _ _ _ en (pre .1 .1 .0), pair-at _ _ _ _ en (pre .1 .1 .1 .1)))
+    (few-at _ _ en (pre .laid .room), (room-at _ _ _ en (pre .room), pair-at _ _ _ _ en (pre .left, pre .right)))
 
 returns : tie.Need-returns
 returns c = search mine
@@ -21,15 +22,13 @@ open-requires : tie.Need-open-requires
 open-requires c κs =
     let pre = c .before .before .before .before .before .before .before .before .pre in
     let en = c .before .before .row-count .ensures in
-    (few-at _ _ en (pre .0 .room), (room-at _ _ _ en (pre .1 .1 .0), pair-at _ _ _ _ en (pre .1 .1 .1 .1)))
+    (few-at _ _ en (pre .laid .room), (room-at _ _ _ en (pre .room), pair-at _ _ _ _ en (pre .left, pre .right)))
 
 returns-2 : tie.Need-returns-2
 returns-2 c = search mine
 
 tried-requires : tie.Need-tried-requires
-tried-requires c κs =
-    let pre = c .before .before .before .before .before .before .before .before .before .before .before .before .pre in
-    (pre .0, (pre .1 .0, (pre .1 .1 .0, (pre .1 .1 .1 .0, ends-at _ _ _ _ _ _ (pre .1 .1 .1 .1) (c .before .before .before .«open» .ensures) (c .before .before .if2 .left)))))
+tried-requires c κs = classes-two _ _ _ _ _ _ _ _ _ (search needs) (c .before .before .before .«open» .ensures) (c .before .before .if2 .left)
 
 same-length : tie.Need-same-length
 same-length c = search mine

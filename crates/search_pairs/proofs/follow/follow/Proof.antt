@@ -3,7 +3,7 @@
 use mathlib.Core.Path.{sym, _∙_}
 use Rattle.runs.specs.Runs.{rowCount}
 use Rattle.search_pairs.specs.Steps.{remaining}
-use Rattle.search_pairs.proofs.Turning.{space-at, laid-at, room-at, blank-laid, blank-labels, Going, going-marked, going-clash, going-less, going-step, mine}
+use Rattle.search_pairs.proofs.Turning.{blank-meets, Going, going-turn, going-clash, going-less, going-step, mine}
 use Rattle.search_pairs.proofs.follow.follow.Statement.{statement}
 use Rattle.search_pairs.proofs.follow.follow.Tie as tie
 
@@ -22,10 +22,8 @@ words-requires c κs = search mine
 meet-requires : tie.Need-meet-requires Inv-loop μ-loop
 meet-requires c κs =
     let pre = c .before .before .before .before .before .before .before .before .before .pre in
-    let en = c .before .before .before .row-count .ensures in (
-      space-at _ _ _ _ en (pre .1 .1 .1 .0 .space),
-      (laid-at _ _ _ _ en (blank-laid _ _ _ (pre .1 .1 .1 .0)), (room-at _ _ _ en (pre .1 .1 .0), (blank-labels _ _ _ _ _ _ en (pre .1 .1 .1 .0) (pre .1 .1 .1 .1), pre .1 .1 .1 .1 .other))),
-    )
+    let en = c .before .before .before .row-count .ensures in
+    blank-meets _ _ _ _ _ _ _ en (pre .blank) (pre .ends) (pre .room)
 
 same-length : tie.Need-same-length Inv-loop μ-loop
 same-length c = search mine
@@ -54,25 +52,23 @@ returns-2 c = search mine
 turn-requires : tie.Need-turn-requires Inv-loop μ-loop
 turn-requires c κs =
     let pre = c .before .before .before .before .before .before .before .before .before .before .before .before .before .before .before .before .before .before .before .before .before .pre in
-    let on = c .before .before .before .before .before .loop .inv in (
-      pre .0,
-      (pre .1 .0, (pre .1 .1 .0, (on .space, (on .laid, going-marked _ _ _ _ _ _ _ _ _ (pre .1 .1 .1 .1) on _ (c .before .before .before .lowest .ensures) (c .before .before .if2 .left))))),
-    )
+    let on = c .before .before .before .before .before .loop .inv in
+    going-turn _ _ _ _ _ _ _ _ _ (pre .ends) on _ (pre .laid) (pre .inside) (pre .room) (c .before .before .before .lowest .ensures) (c .before .before .if2 .left)
 
 same-length-5 : tie.Need-same-length-5 Inv-loop μ-loop
-same-length-5 c = c .before .before .before .before .before .turn .ensures .space .labels-long ∙ sym (c .before .before .before .before .before .before .before .before .before .before .before .before .before .before .before .before .before .before .before .before .before .before .before .before .before .before .before .pre .1 .1 .1 .0 .space .labels-long)
+same-length-5 c = c .before .before .before .before .before .turn .ensures .space .labels-long ∙ sym (c .before .before .before .before .before .before .before .before .before .before .before .before .before .before .before .before .before .before .before .before .before .before .before .before .before .before .before .pre .blank .space .labels-long)
 
 same-length-6 : tie.Need-same-length-6 Inv-loop μ-loop
-same-length-6 c = c .before .before .before .before .before .turn .ensures .space .work-long ∙ sym (c .before .before .before .before .before .before .before .before .before .before .before .before .before .before .before .before .before .before .before .before .before .before .before .before .before .before .before .pre .1 .1 .1 .0 .space .work-long)
+same-length-6 c = c .before .before .before .before .before .turn .ensures .space .work-long ∙ sym (c .before .before .before .before .before .before .before .before .before .before .before .before .before .before .before .before .before .before .before .before .before .before .before .before .before .before .before .pre .blank .space .work-long)
 
 returns-3 : tie.Need-returns-3 Inv-loop μ-loop
-returns-3 c = going-clash _ _ _ _ _ _ _ _ _ (c .before .before .before .before .before .before .before .before .before .before .before .before .before .before .before .before .before .before .before .before .before .before .before .before .before .before .before .pre .1 .1 .1 .1) (c .before .before .before .before .before .before .before .before .before .before .before .loop .inv) _ _ _ (c .before .before .before .before .before .turn .ensures) (c .if3 .taken)
+returns-3 c = going-clash _ _ _ _ _ _ _ _ _ (c .before .before .before .before .before .before .before .before .before .before .before .before .before .before .before .before .before .before .before .before .before .before .before .before .before .before .before .pre .ends) (c .before .before .before .before .before .before .before .before .before .before .before .loop .inv) _ _ _ (c .before .before .before .before .before .turn .ensures) (c .if3 .taken)
 
 loop-less : tie.Need-loop-less Inv-loop μ-loop
-loop-less c = going-less _ _ _ _ _ _ _ _ _ (c .before .before .before .before .before .before .before .before .before .before .before .before .before .before .before .before .before .before .before .before .before .before .before .before .before .before .before .pre .1 .1 .1 .1) (c .before .before .before .before .before .before .before .before .before .before .before .loop .inv) _ _ _ (c .before .before .before .before .before .turn .ensures) (c .if3 .left)
+loop-less c = going-less _ _ _ _ _ _ _ _ _ (c .before .before .before .before .before .before .before .before .before .before .before .before .before .before .before .before .before .before .before .before .before .before .before .before .before .before .before .pre .ends) (c .before .before .before .before .before .before .before .before .before .before .before .loop .inv) _ _ _ (c .before .before .before .before .before .turn .ensures) (c .if3 .left)
 
 loop-again : tie.Need-loop-again Inv-loop μ-loop
-loop-again c = going-step _ _ _ _ _ _ _ _ _ (c .before .before .before .before .before .before .before .before .before .before .before .before .before .before .before .before .before .before .before .before .before .before .before .before .before .before .before .pre .1 .1 .1 .1) (c .before .before .before .before .before .before .before .before .before .before .before .loop .inv) _ _ _ (c .before .before .before .before .before .before .before .before .before .before .before .before .before .before .before .before .before .before .before .before .before .before .before .before .before .before .before .pre .1 .0) (c .before .before .before .before .before .turn .ensures) (c .if3 .left)
+loop-again c = going-step _ _ _ _ _ _ _ _ _ (c .before .before .before .before .before .before .before .before .before .before .before .before .before .before .before .before .before .before .before .before .before .before .before .before .before .before .before .pre .ends) (c .before .before .before .before .before .before .before .before .before .before .before .loop .inv) _ _ _ (c .before .before .before .before .before .before .before .before .before .before .before .before .before .before .before .before .before .before .before .before .before .before .before .before .before .before .before .pre .inside) (c .before .before .before .before .before .turn .ensures) (c .if3 .left)
 
 pub follow-spec : {M : Type 1} → statement M
 follow-spec =

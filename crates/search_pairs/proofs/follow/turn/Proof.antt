@@ -1,6 +1,6 @@
 -- `search_pairs::follow::turn` meets its contract. The row is marked no more, or labels were met.
 -- Assumes nothing.
-use Rattle.search_pairs.proofs.Turning.{space-at, laid-at, room-at, turn-labels, turn-other, turn-met, mine}
+use Rattle.search_pairs.proofs.Turning.{turn-meets, turn-met, mine}
 use Rattle.search_pairs.proofs.follow.turn.Statement.{statement}
 use Rattle.search_pairs.proofs.follow.turn.Tie as tie
 
@@ -10,7 +10,7 @@ row-count-requires c κs = search mine
 mate-requires : tie.Need-mate-requires
 mate-requires c κs =
     let pre = c .before .before .before .before .before .before .before .before .pre in
-    (pre .0, (pre .1 .1 .0, (pre .1 .1 .1 .0, (pre .1 .1 .1 .1 .0, (pre .1 .0, pre .1 .1 .1 .1 .1 .0)))))
+    (pre .rows-laid, (pre .room, (pre .space, (pre .laid, (pre .inside, pre .row)))))
 
 remove-requires : tie.Need-remove-requires
 remove-requires c κs = search mine
@@ -37,19 +37,8 @@ meet-requires c κs =
     let found = c .before .before .before .before .before .before .before .mate .ensures in
     let left = c .before .before .before .before .label .ensures in
     let right = c .before .before .label2 .ensures in
-    let here = c .before .before .before .before .before .before .if1 .left in (
-      space-at _ _ _ _ en (pre .1 .1 .1 .0),
-      (
-        laid-at _ _ _ _ en (pre .1 .1 .1 .1 .0),
-        (
-          room-at _ _ _ en (pre .1 .1 .0),
-          (
-            turn-labels _ _ _ _ _ _ _ (pre .1 .1 .1 .0) (pre .1 .1 .1 .1 .0) (pre .1 .1 .1 .1 .1 .0) found _ _ _ (pre .1 .0) en here left right,
-            turn-other _ _ _ _ _ _ _ (pre .1 .1 .1 .0) (pre .1 .1 .1 .1 .0) (pre .1 .1 .1 .1 .1 .0) found _ _ _ en here left right,
-          ),
-        ),
-      ),
-    )
+    let here = c .before .before .before .before .before .before .if1 .left in
+    turn-meets _ _ _ _ _ _ _ (pre .space) (pre .laid) (pre .row) found _ _ _ (pre .inside) (pre .room) en here left right
 
 same-length-3 : tie.Need-same-length-3
 same-length-3 c = search mine
@@ -61,7 +50,7 @@ returns-2 : tie.Need-returns-2
 returns-2 c =
     let pre = c .before .before .before .before .before .before .before .before .before .before .before .before .before .before .before .before .before .before .before .before .before .pre in
     let en = c .before .before .before .before .before .before .before .before .before .before .before .before .before .before .before .row-count .ensures in
-    turn-met _ _ _ _ _ _ _ (pre .1 .1 .1 .0) (pre .1 .1 .1 .1 .0) (pre .1 .1 .1 .1 .1 .0) (c .before .before .before .before .before .before .before .before .before .before .before .before .mate .ensures) _ _ _ _ _ _ (pre .1 .0) en (c .before .before .before .before .before .before .before .before .before .before .before .if1 .left)
+    turn-met _ _ _ _ _ _ _ (pre .space) (pre .laid) (pre .row) (c .before .before .before .before .before .before .before .before .before .before .before .before .mate .ensures) _ _ _ _ _ _ (pre .inside) en (c .before .before .before .before .before .before .before .before .before .before .before .if1 .left)
     (c .before .before .before .before .before .before .before .before .before .label .ensures) (c .before .before .before .before .before .before .before .label2 .ensures) (c .before .before .before .before .meet .ensures)
 
 pub turn-spec : {M : Type 1} → statement M

@@ -5,7 +5,7 @@ use Rattle.search_pairs.proofs.labels.meet.Statement.{statement}
 use Rattle.search_pairs.proofs.labels.meet.Tie as tie
 
 clashing-requires : tie.Need-clashing-requires
-clashing-requires c κs = search joins
+clashing-requires c κs = (search joins, (search joins, (search joins, search joins)))
 
 same-length : tie.Need-same-length
 same-length c = search joins
