@@ -1,4 +1,6 @@
 // Sets of numbers as bits in words: what a search over runs of them needs.
+#![tactic(auto)]
+
 ghost use Rattle.std.specs.Prelude.{◌≡◌, ◌&&◌, ◌||◌, not, ℕ, ◌+◌, ◌*◌, ◌/◌, ◌^◌, ◌<◌, ◌≤◌, eqb, length};
 ghost use Rattle.std.specs.Int.Count.{count_trailing_zeros};
 ghost use Rattle.bits.specs.Sets.{size, bit_at, has, Lowest, Met, Places, Low, Next, United, Emptied};

@@ -1,4 +1,5 @@
 // The finder and the normaliser for programs in other languages: a reply is one number, and what it hands over stands in the caller's space.
+#![tactic(auto)]
 
 mod table;
 

@@ -1,4 +1,6 @@
 // Prints every breach made of representatives of the text on standard input and then the last line, or the refusal.
+#![tactic(auto)]
+
 ghost use Rattle.meaning.specs.Text.{narrow};
 ghost use Rattle.meaning.specs.Listing.{BreachesPrints};
 ghost use Rattle.hunting.specs.Laid.{context_in, rule_in};

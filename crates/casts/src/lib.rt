@@ -1,4 +1,6 @@
 // Casts to a larger type, one for each pair of types: the number stays, and a caller learns how small it is.
+#![tactic(auto)]
+
 ghost use Rattle.std.specs.Prelude.{◌≡◌, ◌<◌};
 
 pub fn u16_of_u8(x: u8) -> u16

@@ -1,4 +1,6 @@
 // Standard input and standard output, whole or not at all: a failure is told apart from the end of the input and from a reader that left.
+#![tactic(auto)]
+
 pub mod input;
 mod moves;
 pub mod output;

@@ -1,5 +1,6 @@
 // The closing of a context that is lent as two runs: each row's representative, the lowest row that is equal to it. The runs and the table
 // that is lent below `close` have any length.
+#![tactic(auto)]
 
 mod mates;
 mod statements;

@@ -1,5 +1,6 @@
 // The closing of a context that is handed over in columns: each row's representative, the lowest row that is equal to it. Nothing here
 // knows of texts.
+#![tactic(auto)]
 
 pub mod mates;
 mod statements;

@@ -1,4 +1,6 @@
 // Whether columns say a well-formed context and a well-formed clause.
+#![tactic(auto)]
+
 ghost use Rattle.std.specs.Prelude.{true, ◌≡◌, ◌+◌, ◌*◌, ◌≤◌, ◌<◌, length};
 ghost use Rattle.columns.specs.Fit.{Decides, Every, PlacedAt, NamedAt, PatternAt, Laid, Written, FitContext, FitClause};
 

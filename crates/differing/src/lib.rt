@@ -1,5 +1,7 @@
 // Whether two classes differ, in the wider sense: adding their equation would make the two sides of some stated difference equal. What is known of a
 // pair stands in a lent memo, so that each pair is asked once.
+#![tactic(auto)]
+
 ghost use Rattle.std.specs.Prelude.{◌≡◌, ◌+◌, ◌*◌, ◌<◌, replicate};
 ghost use Rattle.meaning.specs.Columns.{context_from};
 ghost use Rattle.meaning.specs.Following.{differ_by};

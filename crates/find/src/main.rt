@@ -1,4 +1,6 @@
 // Prints the first breach of the text on standard input, none, or the refusal.
+#![tactic(auto)]
+
 ghost use Rattle.meaning.specs.Text.{narrow};
 ghost use Rattle.meaning.specs.Replies.{FindPrints};
 ghost use Rattle.channels.specs.Taking.{Read};

@@ -1,4 +1,6 @@
 // The finder: the first breach of a text's rule, or the first after an assignment, none, or a refusal.
+#![tactic(auto)]
+
 ghost use Rattle.std.specs.Prelude.{◌≡◌, take};
 ghost use Rattle.hunting.specs.Laid.{Ready, Lays};
 ghost use Rattle.ruling.specs.Claims.{rows_in, said_in, patterns_in, literals_in};

@@ -1,5 +1,6 @@
 // A closed table closed further, with the equation of two rows more, and whether the two sides of a stated difference become equal by it.
 // The equation is two rows that are handed over, and no entry of the columns.
+#![tactic(auto)]
 
 mod busy;
 mod orderly;

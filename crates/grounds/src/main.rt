@@ -1,4 +1,6 @@
 // Prints the first breach of the text on standard input and its grounds, none, or the refusal.
+#![tactic(auto)]
+
 ghost use Rattle.std.specs.Prelude.{◌≤◌, length};
 ghost use Rattle.meaning.specs.Text.{narrow};
 ghost use Rattle.meaning.specs.Replies.{FindPrints};

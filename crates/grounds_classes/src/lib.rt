@@ -1,4 +1,6 @@
 // Closed classes of entries, with numbered steps that show them.
+#![tactic(auto)]
+
 pub mod classes;
 mod draft;
 pub mod rounds;

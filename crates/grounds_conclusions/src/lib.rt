@@ -1,4 +1,6 @@
 // What shows one literal by itself, from closed classes of shared steps: a step and, for an unequal literal, a stated difference.
+#![tactic(auto)]
+
 ghost use Rattle.std.specs.Prelude.{◌≡◌, ◌+◌, ◌≤◌, ◌<◌, length};
 ghost use Rattle.grounds_numbers.specs.Limits.{most_numbers};
 ghost use Rattle.grounds_numbers.specs.Pairs.{pair_count, pairs_in};

@@ -1,4 +1,6 @@
 // An input taken in pieces: a text, an assignment, and the steps and conclusions of its grounds.
+#![tactic(auto)]
+
 mod bytes;
 mod lines;
 mod notes;

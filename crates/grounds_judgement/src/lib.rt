@@ -1,4 +1,6 @@
 // The checker of anybody's grounds for a breach of a text's rule: a refusal of the text, or the verdict on the grounds.
+#![tactic(auto)]
+
 ghost use Rattle.grounds_judgement.specs.Claims.{JudgesTo, Asks, JudgedIn};
 
 use grounds_steps::WORDS;

@@ -1,4 +1,6 @@
 // How long the runs are in which steps are made and numbered anew. Their twins for contracts stand in specs/Limits.
+#![tactic(auto)]
+
 use grounds_numbers::limits::ENTRIES;
 use grounds_steps::EACH;
 

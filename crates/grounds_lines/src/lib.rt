@@ -1,4 +1,6 @@
 // The lines of grounds, written piece by piece into a lent space.
+#![tactic(auto)]
+
 mod lines;
 pub mod opening;
 

@@ -1,4 +1,6 @@
 // Which steps of a column one step rests on.
+#![tactic(auto)]
+
 ghost use Rattle.std.specs.Prelude.{◌≡◌, ◌+◌, ◌*◌, ◌<◌, length, replicate};
 ghost use Rattle.grounds_laws.specs.Limits.{draft_size};
 ghost use Rattle.grounds_laws.specs.Draft.{count_in};

@@ -1,4 +1,6 @@
 // What the program `verify` prints.
+#![tactic(auto)]
+
 ghost use Rattle.std.specs.Prelude.{◌≡◌, ◌-◌, ◌%◌, ◌≤◌, min, length, take, drop};
 ghost use Rattle.grounds_verdict.specs.Claims.{verdict_of};
 ghost use Rattle.reply_lines.specs.Prints.{Prints};

@@ -1,5 +1,7 @@
 // The steps of grounds as they are lent: one after the other, three words of 64 bits a step. The first word has the owner, the kind and the
 // sides, and the other two have the four numbers.
+#![tactic(auto)]
+
 ghost use Rattle.std.specs.Prelude.{◌≡◌, ◌<◌, length, set};
 ghost use Rattle.grounds_steps.specs.Steps.{words_of, word_in};
 

@@ -1,5 +1,7 @@
 // Grounds for a breach, judged: whether the assignment names context rows, each step follows from earlier ones, and each literal is concluded.
 // What is lent has any length; `judge` makes the runs for a context of the length that a text may have.
+#![tactic(auto)]
+
 mod assignment;
 mod literals;
 mod owners;

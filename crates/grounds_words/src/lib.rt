@@ -1,4 +1,6 @@
 // What one step of a column rests on, numbered anew and written as words behind those written before.
+#![tactic(auto)]
+
 pub mod words;
 
 ghost use Rattle.std.specs.Prelude.{◌≡◌, ◌+◌, ◌*◌, ◌<◌, length, get_or, set, replicate};

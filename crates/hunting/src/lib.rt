@@ -1,5 +1,7 @@
 // The search over runs: they are laid out in columns once, with the marks of the busy classes, and then searched for the first breach, or for
 // the first after an assignment.
+#![tactic(auto)]
+
 ghost use Rattle.std.specs.Prelude.{◌≡◌};
 ghost use Rattle.runs.specs.Runs.{context_of, clause_of};
 ghost use Rattle.differing.specs.Knowing.{Knows};

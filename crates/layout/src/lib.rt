@@ -1,4 +1,6 @@
 // Runs laid out in columns, for a search that reads columns. Every place is set, those past the last piece too.
+#![tactic(auto)]
+
 ghost use Rattle.std.specs.Prelude.{◌++◌, ◌≡◌, ◌+◌, ◌*◌, ◌≤◌, ◌<◌, length, drop};
 ghost use Rattle.meaning.specs.Columns.{pad};
 ghost use Rattle.runs.specs.Limits.{most_rows, most_statements, most_patterns, most_literals, row_size, said_size, pattern_size, literal_size, arg_places};

@@ -1,4 +1,6 @@
 // The list of all breaches whose rows are representatives, written piece by piece into a lent space.
+#![tactic(auto)]
+
 pub mod opening;
 
 ghost use Rattle.std.specs.Prelude.{◌≡◌, take};

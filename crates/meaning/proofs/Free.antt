@@ -51,7 +51,9 @@ module _ (v : ℕ) (chosen other : List Term) (same : (w : ℕ) → (w ≡ v →
   agree-fill : {bs : List Bool} {ts us : List Term} → Agree bs ts us → (ps : List Pattern) → Agree (touches_from v bs ps) (fill chosen ts ps) (fill other us ps)
   unfolding touches_from fill
   agree-fill a [] = a
-  agree-fill {bs} {ts} {us} a (p ∷ ps) = agree-fill (agree-snoc a (touch v bs p) (instance chosen ts p) (instance other us p) (agree-instance a p)) ps
+  agree-fill {bs} {ts} {us} a (p ∷ ps) =
+      agree-fill {bs = bs ++ (touch v bs p ∷ [])} {ts = ts ++ (instance chosen ts p ∷ [])} {us = us ++ (instance other us p ∷ [])}
+      (agree-snoc a (touch v bs p) (instance chosen ts p) (instance other us p) (agree-instance a p)) ps
 
   pub untouched : (ps : List Pattern) (p : ℕ) → get_or (touches v ps) p false ≡ false → get_or (instances ps chosen) p term₀ ≡ get_or (instances ps other) p term₀
   unfolding touches instances

@@ -1,4 +1,6 @@
 // Prints the normal text of the text on standard input, or the refusal.
+#![tactic(auto)]
+
 ghost use Rattle.std.specs.Prelude.{◌++◌};
 ghost use Rattle.meaning.specs.Text.{narrow};
 ghost use Rattle.meaning.specs.Replies.{NormalisePrints};

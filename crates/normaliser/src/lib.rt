@@ -1,4 +1,6 @@
 // The normaliser: the one canonical text of a context, or a refusal.
+#![tactic(auto)]
+
 mod keys;
 mod normal;
 

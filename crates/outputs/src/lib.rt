@@ -1,4 +1,6 @@
 // What the programs print for an input.
+#![tactic(auto)]
+
 ghost use Rattle.std.specs.Prelude.{◌≡◌, replicate};
 ghost use Rattle.outputs.specs.Claims.{normal_limit, PrintsFound, PrintsNormal};
 

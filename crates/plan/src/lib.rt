@@ -1,4 +1,6 @@
 // What a search for the first breach of a clause rests on, found from the clause alone.
+#![tactic(auto)]
+
 ghost use Rattle.std.specs.Prelude.{◌≡◌};
 ghost use Rattle.columns.specs.Fit.{Written, FitClause};
 ghost use Rattle.plan.specs.Plans.{Planned, unfit_plan, Plans};

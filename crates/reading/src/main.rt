@@ -1,4 +1,6 @@
 // Reads each file that an argument names, and says on a line what the reader answers.
+#![tactic(auto)]
+
 use libc::STDOUT_FILENO;
 use runs::limits::{LITERAL, PATTERN, ROW, SAID};
 use text_runs::Answer;

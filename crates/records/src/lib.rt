@@ -1,5 +1,7 @@
 // The closing and the finder for callers whose table is records, one for each row, lent together: they are laid out in runs, and the functions
 // over runs do the rest.
+#![tactic(auto)]
+
 pub mod finding;
 mod laying;
 

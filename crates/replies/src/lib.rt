@@ -1,4 +1,5 @@
 // What is answered to a text: a refusal, or a reply with the rows of its variables.
+#![tactic(auto)]
 
 // The most bytes that a program takes; refusal 11 is for more.
 pub const INPUT_LIMIT: usize = 16384;

@@ -1,4 +1,6 @@
 // Lines that are written: the line that a program prints for a reply.
+#![tactic(auto)]
+
 pub mod hex;
 
 ghost use Rattle.std.specs.Prelude.{◌≡◌, [], map, min, take};

@@ -1,4 +1,6 @@
 // A text read into runs, its context closed, and ruled on: the reader's refusal, then 8, then 9, or a rule that is ready.
+#![tactic(auto)]
+
 ghost use Rattle.std.specs.Prelude.{◌≡◌, ◌+◌, ◌≤◌, ◌<◌, length, take};
 ghost use Rattle.meaning.specs.Context.{differences_of};
 ghost use Rattle.meaning.specs.Equality.{rep_at};

@@ -1,5 +1,7 @@
 // A context and a rule as runs of numbers that are lent: how many pieces a run holds, and the numbers of each piece. The length carries the
 // count, so one function serves runs of every length.
+#![tactic(auto)]
+
 ghost use Rattle.std.specs.Prelude.{◌≡◌, ◌<◌};
 ghost use Rattle.runs.specs.Limits.{arg_places};
 ghost use Rattle.runs.specs.Runs.{row_count, symbol_in, count_in, arg_in, said_count, kind_in, left_in, right_in, pattern_count, pattern_kind_in, head_in, pattern_count_in, pattern_arg_in, literal_count, sign_in};

@@ -1,5 +1,7 @@
 // The first breach of a clause over a context, and the first after an assignment, by a table of representatives that is handed in. Whether two
 // classes differ does not rest on that table: it asks the closing of the context.
+#![tactic(auto)]
+
 ghost use Rattle.std.specs.Prelude.{◌≡◌, ◌≤◌, ◌<◌, length};
 ghost use Rattle.meaning.specs.Context.{differences_of};
 ghost use Rattle.meaning.specs.Equality.{rep_at};

@@ -1,5 +1,6 @@
 // Whether two classes differ: adding their equation would make the two sides of some stated difference equal. What is known of the classes settles
 // most pairs; else the equation is followed from the closed table and taken back.
+#![tactic(auto)]
 
 mod follow;
 mod labels;

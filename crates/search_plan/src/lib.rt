@@ -1,4 +1,6 @@
 // What a search for the first breach of a rule rests on, found from the rule alone.
+#![tactic(auto)]
+
 ghost use Rattle.std.specs.Prelude.{◌≡◌, ◌≤◌, length, replicate};
 ghost use Rattle.meaning.specs.Values.{levels as levels_of};
 ghost use Rattle.runs.specs.Limits.{most_patterns};

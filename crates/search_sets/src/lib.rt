@@ -1,5 +1,7 @@
 // The steps of matching over one run of words: what the pattern rows and the variables can still be, before the next choice. No step leaves
 // out an assignment that is sought.
+#![tactic(auto)]
+
 ghost use Rattle.std.specs.Prelude.{length};
 ghost use Rattle.search_sets.specs.Places.{VariableIn, PairIn, KnownPair};
 ghost use Rattle.search_sets.specs.Keeps.{Keeps, Steps, VariableRow, EqualRows};

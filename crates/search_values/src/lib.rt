@@ -1,5 +1,7 @@
 // The values of pattern rows under chosen rows, over runs. The rows of a context are sorted by symbol once for a text, so that a row is found
 // by its symbol and the classes of its arguments without a walk along all rows.
+#![tactic(auto)]
+
 ghost use Rattle.std.specs.Prelude.{◌≡◌, ◌≤◌, length};
 ghost use Rattle.runs.specs.Runs.{row_count};
 ghost use Rattle.search_values.specs.Index.{key_base, row_keys, IndexFit, Indexed};

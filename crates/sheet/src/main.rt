@@ -2,6 +2,8 @@
 // a line has the text's name, the finder's reply, and the normaliser's refusal or whether it wrote
 // that normal text. The space that is lent is as long as the second file, so that a normal text
 // without its last byte (`.short`) shows refusal 10.
+#![tactic(auto)]
+
 use casts::usize_of_u8;
 use libc::STDOUT_FILENO;
 use normaliser::Written;

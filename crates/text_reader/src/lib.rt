@@ -1,4 +1,6 @@
 // The reader: any bytes to the runs that say a context and a rule, or the first fault by number, line and byte.
+#![tactic(auto)]
+
 mod agree;
 mod entries;
 mod kinds;

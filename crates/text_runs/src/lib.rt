@@ -1,4 +1,6 @@
 // What reading a text tells: that it is taken, or its refusal; and the runs that say its context and its rule.
+#![tactic(auto)]
+
 use replies::Refusal;
 use runs::limits::{LITERAL_RUN, PATTERN_RUN, ROW_RUN, SAID_RUN};
 

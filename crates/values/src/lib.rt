@@ -1,4 +1,6 @@
 // The values of pattern rows under a choice of rows, over chains of the context rows.
+#![tactic(auto)]
+
 pub mod chain;
 mod size;
 pub mod value;

@@ -1,4 +1,6 @@
 // Prints what the checker says of the text and the grounds on standard input.
+#![tactic(auto)]
+
 ghost use Rattle.std.specs.Prelude.{◌≡◌, ◌<◌};
 ghost use Rattle.grounds_intake.specs.Machine.{memory, fresh};
 ghost use Rattle.channels.specs.Taking.{Read};

@@ -1,4 +1,6 @@
 // The writer of grounds: the finder's reply, and for a breach the steps and conclusions that show it.
+#![tactic(auto)]
+
 mod drawing;
 
 ghost use Rattle.std.specs.Prelude.{◌≡◌, ◌≤◌, ltb, length};
