@@ -19,7 +19,7 @@ use listing::State;
 const PIECE: usize = 8192;
 
 // What became of a piece, and where the list goes on.
-#[derive(Drop)]
+#[derive(Clone, Copy)]
 struct Given {
     sent: Sent,
     next: State,

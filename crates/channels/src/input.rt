@@ -14,7 +14,7 @@ pub const INPUT_SPACE: usize = INPUT_LIMIT + 1;
 pub const PIECE_SPACE: usize = 8192;
 
 // How many bytes were read into a space, fewer than it has where the input ended; or the read failed, which was said on standard error.
-#[derive(Drop)]
+#[derive(Clone, Copy)]
 pub enum Got {
     Bytes(usize),
     Failed,

@@ -3,7 +3,7 @@ ghost use Rattle.std.specs.Prelude.{◌≡◌, length};
 ghost use Rattle.channels.specs.Moves.{failing, move_of, Moves};
 
 // So many bytes; none; none, since a signal came or since nobody reads any more; or a failure.
-#[derive(Drop)]
+#[derive(Clone, Copy)]
 pub enum Move {
     Bytes(usize),
     End,

@@ -6,7 +6,7 @@ ghost use Rattle.channels.specs.Sending.{stop_of, Carries, none_sent, both_of, w
 use crate::moves::{Move, write_once};
 
 // Every byte was taken; nobody reads any more; or it failed, which was said on standard error.
-#[derive(Drop)]
+#[derive(Clone, Copy)]
 pub enum Fate {
     Whole,
     Left,
@@ -14,7 +14,7 @@ pub enum Fate {
 }
 
 // What became of bytes that were handed over, and how many were taken, by 64 bits. Only this crate makes one.
-#[derive(Drop)]
+#[derive(Clone, Copy)]
 pub struct Sent {
     pub(crate) fate: Fate,
     pub(crate) count: usize,

@@ -5,7 +5,7 @@ ghost use Rattle.channels.specs.Telling.{place_of, status_of};
 use crate::output::{Fate, Sent, send};
 
 // A descriptor, or none.
-#[derive(Drop)]
+#[derive(Clone, Copy)]
 pub enum Place {
     At(i32),
     Nowhere,

@@ -26,20 +26,20 @@ use statements::{apart_at, clash_at, difference_at, join_stated};
 use table::{number, sum};
 use wake::follow;
 
-#[derive(Drop)]
+#[derive(Clone, Copy)]
 pub enum Answer {
     Closed,
     Unfit,
 }
 
-#[derive(Drop)]
+#[derive(Clone, Copy)]
 pub enum Contradiction {
     First(usize),
     Clear,
 }
 
 // The table is held by value. Places past the rows hold their own numbers.
-#[derive(Drop)]
+#[derive(Clone, Copy)]
 pub struct Classes {
     pub answer: Answer,
     pub table: [u16; ROWS],

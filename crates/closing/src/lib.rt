@@ -22,19 +22,19 @@ use statements::{apart_at, clash_at, difference_at, join_stated};
 use table::{own, sum};
 use wake::follow;
 
-#[derive(Drop)]
+#[derive(Clone, Copy)]
 pub enum Answer {
     Closed,
     Unfit,
 }
 
-#[derive(Drop)]
+#[derive(Clone, Copy)]
 pub struct Classes {
     pub answer: Answer,
     pub table: [u16; 255],
 }
 
-#[derive(Drop)]
+#[derive(Clone, Copy)]
 pub enum Contradiction {
     First(u16),
     Clear,

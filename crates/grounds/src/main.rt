@@ -20,7 +20,7 @@ use grounds_verdict::Conclusions;
 const PIECE: usize = 8192;
 
 // What became of a piece, and which item comes next.
-#[derive(Drop)]
+#[derive(Clone, Copy)]
 struct Given {
     sent: Sent,
     next: usize,

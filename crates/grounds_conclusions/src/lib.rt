@@ -18,7 +18,7 @@ use grounds_laws::CLASS_RUN;
 use grounds_numbers::pairs::pair_count;
 
 // The number of a step, and of the stated difference whose sides it says are equal, or 0 for none.
-#[derive(Drop)]
+#[derive(Clone, Copy)]
 pub struct Shown {
     pub first: u16,
     pub difference: u16,

@@ -19,7 +19,7 @@ use runs::limits::{LITERALS, UNUSED, VARIABLES};
 use spaces::{grow, put};
 
 // The text: 0 at a line's start, 1 after a digit 0 there, 2 further on; 3 in the 08 line, 4 after it. How many bytes it has, and where its last line begins.
-#[derive(Drop)]
+#[derive(Clone, Copy)]
 pub struct Head {
     pub phase: u8,
     pub size: usize,
@@ -27,7 +27,7 @@ pub struct Head {
 }
 
 // A line: the values of its digits, how many there are, and whether all are digits.
-#[derive(Drop)]
+#[derive(Clone, Copy)]
 pub struct Buffer {
     pub values: [u8; LINE],
     pub size: usize,
@@ -35,13 +35,13 @@ pub struct Buffer {
 }
 
 // The conclusions, and for which literals there was one.
-#[derive(Drop)]
+#[derive(Clone, Copy)]
 pub struct Noted {
     pub conclusions: Conclusions,
     pub given: [u8; LITERALS],
 }
 
-#[derive(Drop)]
+#[derive(Clone, Copy)]
 pub struct Parser {
     pub head: Head,
     pub line: Buffer,

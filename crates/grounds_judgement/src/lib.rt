@@ -11,7 +11,7 @@ use runs::limits::VARIABLES;
 use text_runs::Filled;
 
 // The verdict, or the refusal of the text.
-#[derive(Drop)]
+#[derive(Clone, Copy)]
 pub enum Outcome {
     Judged(Answer),
     Refused(Refusal),

@@ -15,7 +15,7 @@ use lines::{put_end, put_step};
 use runs::limits::LITERALS;
 
 // How many bytes were written, and which item comes next.
-#[derive(Drop)]
+#[derive(Clone, Copy)]
 pub struct Filled {
     pub used: usize,
     pub next: usize,

@@ -7,7 +7,7 @@ use replies::INPUT_LIMIT;
 use reply_lines::{Line, over_line, reply_line};
 
 // The line; and for a breach how many steps stand in the run, how many literals there are, and their conclusions.
-#[derive(Drop)]
+#[derive(Clone, Copy)]
 pub struct Opened {
     pub line: Line,
     pub steps: usize,

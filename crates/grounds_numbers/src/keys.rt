@@ -11,7 +11,7 @@ use super::numbers::number_after;
 use runs::limits::{PLACES, ROW};
 use runs::{arg_in, count_in, head_in, pattern_arg_in, pattern_count_in, symbol_in};
 
-#[derive(Drop)]
+#[derive(Clone, Copy)]
 pub(crate) struct Key {
     pub symbol: u16,
     pub count: u16,

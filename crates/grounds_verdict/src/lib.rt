@@ -30,7 +30,7 @@ use runs::{literal_count, row_count};
 use steps::first_bad;
 
 // Steps and literals are counted from 1, and variables from 0.
-#[derive(Drop)]
+#[derive(Clone, Copy)]
 pub enum Answer {
     Accepted,
     Unassigned(usize),
@@ -39,7 +39,7 @@ pub enum Answer {
 }
 
 // A place for each literal; an absent conclusion cites step 0.
-#[derive(Drop)]
+#[derive(Clone, Copy)]
 pub struct Conclusions {
     pub firsts: [u32; LITERALS],
     pub differences: [u16; LITERALS],

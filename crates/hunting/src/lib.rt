@@ -17,7 +17,7 @@ use search::Reply;
 pub const PAIRS: usize = ROWS * ROWS;
 
 // A context and a rule as a search takes them, the representatives of the rows, and the marks of the busy classes.
-#[derive(Drop)]
+#[derive(Clone, Copy)]
 pub struct Laid {
     context: ContextColumns,
     rule: RuleColumns,

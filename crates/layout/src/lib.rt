@@ -15,7 +15,7 @@ const ROW_PLACES: usize = ROWS * PLACES;
 const PATTERN_PLACES: usize = PATTERNS * PLACES;
 
 // Rows with a symbol, a count and four places for arguments; statements with their kind; how many of each. Unused places are 0.
-#[derive(Drop)]
+#[derive(Clone, Copy)]
 pub struct ContextColumns {
     pub rows: usize,
     pub symbols: [u16; ROWS],
@@ -28,7 +28,7 @@ pub struct ContextColumns {
 }
 
 // Pattern rows with their kind, a head, a count and four places for arguments; literals with their sign; how many of each. Unused places are 0.
-#[derive(Drop)]
+#[derive(Clone, Copy)]
 pub struct RuleColumns {
     pub patterns: usize,
     pub kinds: [u8; PATTERNS],

@@ -17,7 +17,7 @@ use runs::limits::{UNUSED, VARIABLES};
 use search::Kind;
 
 // At the start of the list, after a breach, or past the end.
-#[derive(Drop)]
+#[derive(Clone, Copy)]
 pub enum Stage {
     Start,
     After,
@@ -25,21 +25,21 @@ pub enum Stage {
 }
 
 // The rows of the breach stand beside the stage, unused places 255.
-#[derive(Drop)]
+#[derive(Clone, Copy)]
 pub struct State {
     pub stage: Stage,
     pub places: [u16; VARIABLES],
 }
 
 // How many bytes were written, and where the list goes on.
-#[derive(Drop)]
+#[derive(Clone, Copy)]
 pub struct Filled {
     pub used: usize,
     pub next: State,
 }
 
 // The line that comes at a state, in the first `len` bytes, and the state after it; no bytes where nothing comes.
-#[derive(Drop)]
+#[derive(Clone, Copy)]
 struct Entry {
     bytes: [u8; 32],
     len: usize,

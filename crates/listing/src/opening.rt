@@ -9,14 +9,14 @@ use reply_lines::{Line, no_line, refusal_line};
 use ruling::Answer;
 
 // The refusal's line, or none, and where the list begins.
-#[derive(Drop)]
+#[derive(Clone, Copy)]
 struct Head {
     line: Line,
     state: State,
 }
 
 // What the program prints first, and what the list is filled from. A refused input has a line and nothing to list.
-#[derive(Drop)]
+#[derive(Clone, Copy)]
 pub struct Opened {
     pub line: Line,
     pub state: State,

@@ -15,7 +15,7 @@ use normal::write_normal;
 use replies::Refusal;
 
 // How many bytes were written, or the refusal.
-#[derive(Drop)]
+#[derive(Clone, Copy)]
 pub enum Written {
     Wrote(usize),
     Refused(Refusal),

@@ -12,7 +12,7 @@ use reply_lines::{Line, no_line, over_line, refusal_line, reply_line};
 pub const NORMAL_SPACE: usize = 7898;
 
 // What is printed: so many bytes of the lent space, and then the line.
-#[derive(Drop)]
+#[derive(Clone, Copy)]
 pub struct Parts {
     pub text: usize,
     pub line: Line,

@@ -13,7 +13,7 @@ mod size;
 
 // The levels of the pattern rows; the rows by level and then by row, those of level k from ends[k] up to ends[k + 1]; 1 for each variable that
 // no literal reaches, other than those that say p = p; and whether some literal says that p and p differ. All is 0 where the columns are not well-formed.
-#[derive(Drop)]
+#[derive(Clone, Copy)]
 pub struct Plan {
     pub fit: bool,
     pub variables: u8,

@@ -10,7 +10,7 @@ use runs::literal_count;
 use search::Kind;
 
 // A breach of so many variables, none, a refusal 8 or 9, or a table, statements or a rule that are not well-formed.
-#[derive(Drop)]
+#[derive(Clone, Copy)]
 pub enum Outcome {
     Breach(u8),
     Clear,
@@ -19,7 +19,7 @@ pub enum Outcome {
 }
 
 // The rows of the variables stand beside the outcome, unused places 255.
-#[derive(Drop)]
+#[derive(Clone, Copy)]
 pub struct Reply {
     pub outcome: Outcome,
     pub places: [u16; VARIABLES],

@@ -18,7 +18,7 @@ use runs::limits::{LITERAL, LITERALS, PATTERN, PATTERNS, PLACES, ROW, ROWS, SAID
 
 // A symbol, how many arguments, and four places for them, of which those from the count on are not read.
 #[repr(C)]
-#[derive(Drop)]
+#[derive(Clone, Copy)]
 pub struct Row {
     pub symbol: u16,
     pub count: u8,
@@ -27,7 +27,7 @@ pub struct Row {
 
 // Statements with their kind, 2 or 3, in order; how many.
 #[repr(C)]
-#[derive(Drop)]
+#[derive(Clone, Copy)]
 pub struct Statements {
     pub kinds: [u8; STATEMENTS],
     pub lefts: [u16; STATEMENTS],
@@ -40,7 +40,7 @@ const SUBS: usize = PATTERNS * PLACES;
 
 // A rule in columns: pattern rows with their kind, 4 or 5, a head, a count and four places for arguments; literals with their kind, 6 or 7; how many of each.
 #[repr(C)]
-#[derive(Drop)]
+#[derive(Clone, Copy)]
 pub struct ClauseColumns {
     pub patterns: usize,
     pub kinds: [u8; PATTERNS],
@@ -54,7 +54,7 @@ pub struct ClauseColumns {
 }
 
 // Records by value, unused places blank; how many.
-#[derive(Drop)]
+#[derive(Clone, Copy)]
 pub struct Table {
     pub rows: [Row; ROWS],
     pub count: usize,

@@ -5,7 +5,7 @@
 pub const INPUT_LIMIT: usize = 16384;
 
 // Which refusal, the line that it names, counted from 1, and the byte within that line, counted from 0.
-#[derive(Drop)]
+#[derive(Clone, Copy)]
 pub struct Refusal {
     pub number: u8,
     pub line: u16,
@@ -13,7 +13,7 @@ pub struct Refusal {
 }
 
 // A breach of so many variables, none, or a refusal.
-#[derive(Drop)]
+#[derive(Clone, Copy)]
 pub enum Outcome {
     Breach(u8),
     Clear,
@@ -21,7 +21,7 @@ pub enum Outcome {
 }
 
 // The rows of the variables stand beside the outcome, unused places 255.
-#[derive(Drop)]
+#[derive(Clone, Copy)]
 pub struct Reply {
     pub outcome: Outcome,
     pub places: [u16; 4],

@@ -18,7 +18,7 @@ use replies::{Outcome, Refusal};
 pub const LINE_SPACE: usize = 32;
 
 // The first `len` bytes are the line, and the others are 0.
-#[derive(Drop)]
+#[derive(Clone, Copy)]
 pub struct Line {
     pub bytes: [u8; LINE_SPACE],
     pub len: usize,

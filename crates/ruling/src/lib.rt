@@ -17,14 +17,14 @@ use runs::limits::{LITERAL, ROWS};
 use text_runs::Told;
 
 // A rule to be searched for, or refusal 1 to 9.
-#[derive(Drop)]
+#[derive(Clone, Copy)]
 pub enum Answer {
     Ready,
     Refused(Refusal),
 }
 
 // What was read, the representatives of its rows, and the first stated difference that contradicts them.
-#[derive(Drop)]
+#[derive(Clone, Copy)]
 pub struct Closed {
     pub told: Told,
     pub table: [u16; ROWS],
@@ -32,7 +32,7 @@ pub struct Closed {
 }
 
 // What is answered, what was read, and the representatives of its rows.
-#[derive(Drop)]
+#[derive(Clone, Copy)]
 pub struct Ruled {
     pub answer: Answer,
     pub told: Told,

@@ -17,7 +17,7 @@ mod literal;
 mod size;
 
 // A breach of so many variables, none, or columns that are not well-formed.
-#[derive(Drop)]
+#[derive(Clone, Copy)]
 pub enum Kind {
     Breach(u8),
     Clear,
@@ -25,7 +25,7 @@ pub enum Kind {
 }
 
 // The rows of the variables stand beside the kind, unused places 255.
-#[derive(Drop)]
+#[derive(Clone, Copy)]
 pub struct Reply {
     pub kind: Kind,
     pub places: [u16; 4],

@@ -27,7 +27,7 @@ pub const ENDS: usize = LEVELS + 1;
 // The levels of the pattern rows; the rows by level and then by row, those of level k from ends[k] up to ends[k + 1]; the variables in each row's
 // term, as bits; those that literals reach, other than those that say p = p; and whether some literal says that p and p differ. All is 0 where
 // the rule is not well-formed.
-#[derive(Drop)]
+#[derive(Clone, Copy)]
 pub struct Plan {
     pub fit: bool,
     pub variables: u8,
@@ -80,7 +80,7 @@ fn reach_numbers(patterns: &[u16]) -> [u8; PATTERNS]
     run
 }
 
-#[derive(Drop)]
+#[derive(Clone, Copy)]
 struct Reading {
     rows: [u8; PATTERNS],
     ends: [u8; ENDS],

@@ -3,7 +3,7 @@ ghost use Rattle.std.specs.Prelude.{◌≡◌};
 ghost use Rattle.meaning.specs.Text.{digit};
 ghost use Rattle.text_lines.specs.Digits.{digit_of};
 
-#[derive(Drop)]
+#[derive(Clone, Copy)]
 pub enum Digit {
     Value(u8),
     Not,

@@ -6,25 +6,25 @@ ghost use Rattle.text_lines.specs.Entries.{found_in, argument_of, TermLine, TwoF
 use super::lines::field;
 use casts::{usize_of_u8, usize_of_u16};
 
-#[derive(Drop)]
+#[derive(Clone, Copy)]
 pub enum Found {
     Row(u16),
     Missing,
 }
 
-#[derive(Drop)]
+#[derive(Clone, Copy)]
 pub struct Pair {
     pub left: u16,
     pub right: u16,
 }
 
-#[derive(Drop)]
+#[derive(Clone, Copy)]
 pub enum Paired {
     Is(Pair),
     Refused(u8, u16),
 }
 
-#[derive(Drop)]
+#[derive(Clone, Copy)]
 pub struct Term {
     pub head: u16,
     pub count: u8,
@@ -34,7 +34,7 @@ pub struct Term {
     pub d: u16,
 }
 
-#[derive(Drop)]
+#[derive(Clone, Copy)]
 pub enum Termed {
     Is(Term),
     Refused(u8, u16),

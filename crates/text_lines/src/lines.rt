@@ -7,7 +7,7 @@ use super::digits::{Digit, digit_of, value};
 use casts::u16_of_u8;
 
 // Where a legible line has its line feed; or the byte that refusal 1 names, counted from where the line begins.
-#[derive(Drop)]
+#[derive(Clone, Copy)]
 pub enum Line {
     Ends(usize),
     Bad(u16),

@@ -15,7 +15,7 @@ use text_lines::entries::{Found, Pair, Paired, Term, Termed, row_at, term_of};
 use text_lines::lines::field;
 
 // A statement with its kind, 2 or 3, and a literal with its sign, 6 or 7.
-#[derive(Drop)]
+#[derive(Clone, Copy)]
 pub(crate) enum Entry {
     Row(Term),
     Said(u16, Pair),

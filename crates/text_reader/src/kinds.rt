@@ -6,7 +6,7 @@ ghost use Rattle.text_reader.specs.Kinds.{Looked, fixed_size, term_size, SizeIs,
 use casts::usize_of_u16;
 use text_lines::lines::field;
 
-#[derive(Drop)]
+#[derive(Clone, Copy)]
 pub(crate) enum Kind {
     ContextRow,
     Equation,
@@ -17,14 +17,14 @@ pub(crate) enum Kind {
     UnequalLiteral,
 }
 
-#[derive(Drop)]
+#[derive(Clone, Copy)]
 pub(crate) enum Listed {
     Is(Kind),
     Unlisted,
 }
 
 // A line that has its kind's length, with how many arguments it names.
-#[derive(Drop)]
+#[derive(Clone, Copy)]
 pub(crate) enum Sized {
     Is(u16),
     Not,

@@ -13,7 +13,7 @@ use runs::writing::{put_literal, put_pattern, put_row, put_said};
 use text_lines::entries::{Pair, Term};
 use text_lines::lines::{Line, line_at};
 
-#[derive(Drop)]
+#[derive(Clone, Copy)]
 pub(crate) enum Step {
     Next(State),
     Refused(Refusal),

@@ -3,7 +3,7 @@ ghost use Rattle.std.specs.Prelude.{◌≡◌, ◌<◌};
 ghost use Rattle.text_reader.specs.State.{start_state, passed_to};
 
 // The place of the next line and its number, the rank of the last one, how many lines of each group there were, and how many symbols are noted.
-#[derive(Drop)]
+#[derive(Clone, Copy)]
 pub(crate) struct State {
     pub at: usize,
     pub line: u16,

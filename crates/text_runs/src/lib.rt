@@ -4,14 +4,14 @@
 use replies::Refusal;
 use runs::limits::{LITERAL_RUN, PATTERN_RUN, ROW_RUN, SAID_RUN};
 
-#[derive(Drop)]
+#[derive(Clone, Copy)]
 pub enum Answer {
     Taken,
     Refused(Refusal),
 }
 
 // How many numbers of each run are filled.
-#[derive(Drop)]
+#[derive(Clone, Copy)]
 pub struct Filled {
     pub rows: usize,
     pub said: usize,
@@ -20,7 +20,7 @@ pub struct Filled {
 }
 
 // The places past those that are filled are 0.
-#[derive(Drop)]
+#[derive(Clone, Copy)]
 pub struct Told {
     pub answer: Answer,
     pub filled: Filled,

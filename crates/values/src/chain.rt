@@ -9,7 +9,7 @@ use crate::size::{long, wide, wide8};
 
 // The first row of each chain, and the next row after each; 255 ends a chain. A chain holds the rows whose symbols leave one
 // remainder by 256, rising.
-#[derive(Drop)]
+#[derive(Clone, Copy)]
 pub struct Chains {
     pub first: [u16; 256],
     pub next: [u16; 255],

@@ -16,7 +16,7 @@ use replies::INPUT_LIMIT;
 use reply_lines::Line;
 
 // After a piece there may be more; the input ended with it; or it could not be read.
-#[derive(Drop)]
+#[derive(Clone, Copy)]
 enum Turn {
     More,
     Ended,
@@ -24,7 +24,7 @@ enum Turn {
 }
 
 // What was taken in so far.
-#[derive(Drop)]
+#[derive(Clone, Copy)]
 struct Taken {
     parser: Parser,
     turn: Turn,

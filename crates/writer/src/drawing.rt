@@ -32,7 +32,7 @@ use runs::limits::{LITERALS, ROW, VARIABLES};
 use runs::{left_in, literal_count, right_in, row_count, sign_in};
 
 // A literal's kind, the numbers of its sides, and whose steps its own are.
-#[derive(Drop)]
+#[derive(Clone, Copy)]
 pub(crate) struct Asked {
     kind: u16,
     left: u16,
@@ -41,7 +41,7 @@ pub(crate) struct Asked {
 }
 
 // The number of the step that a literal's conclusion cites, a stated difference, and how many steps are written.
-#[derive(Drop)]
+#[derive(Clone, Copy)]
 pub(crate) struct Turn {
     first: u16,
     difference: u16,
@@ -49,7 +49,7 @@ pub(crate) struct Turn {
 }
 
 // How many steps are written, and a conclusion for each literal.
-#[derive(Drop)]
+#[derive(Clone, Copy)]
 pub(crate) struct Support {
     pub steps: usize,
     pub conclusions: Conclusions,

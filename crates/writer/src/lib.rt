@@ -21,7 +21,7 @@ use search::Kind;
 use text_runs::Filled;
 
 // The finder's reply, or refusal 10; how many steps were written, and a conclusion for each literal.
-#[derive(Drop)]
+#[derive(Clone, Copy)]
 pub struct Grounds {
     pub outcome: Outcome,
     pub places: [u16; VARIABLES],

@@ -1,0 +1,13 @@
+-- `classes::begin` meets its contract: after the stated equations the sides of each have one representative.
+-- Assumes nothing.
+use Rattle.classes.proofs.Rounds.{mine}
+use Rattle.classes.proofs.begin.Goals as goal
+
+pub join_stated-requires : goal.join_stated-requires
+join_stated-requires c = search mine
+
+pub sum-requires : goal.sum-requires
+sum-requires c = search mine
+
+pub returns : goal.returns
+returns c = search mine

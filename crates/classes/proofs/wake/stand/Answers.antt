@@ -1,0 +1,21 @@
+use Prim.Native.Nat.{◌-◌}
+use Rattle.classes.proofs.Nearing.{mine}
+use Rattle.classes.proofs.wake.stand.Goals as goal
+
+pub loop-k-init : goal.loop-k-init
+loop-k-init c = search mine
+
+pub arg_class-class-requires : goal.arg_class-class-requires
+arg_class-class-requires c = search mine
+
+pub usize_of_u16-requires : goal.usize_of_u16-requires
+usize_of_u16-requires c = search mine
+
+pub carry-requires : goal.carry-requires
+carry-requires c = search mine
+
+pub loop-k-preserved : goal.loop-k-preserved
+loop-k-preserved c = search mine
+
+pub returns : goal.returns
+returns c = search mine

@@ -1,0 +1,10 @@
+-- `classes::wake::stand` meets its contract. Nothing is promised of the links.
+-- Assumes nothing.
+use Prim.Native.Nat.{◌-◌}
+use Rattle.classes.proofs.wake.stand.Given as goal
+
+abbrev pub invariant-loop-k : goal.invariant-loop-k
+invariant-loop-k l = Unit {0}
+
+abbrev pub decreases-loop-k : goal.decreases-loop-k
+decreases-loop-k l = l.count - l.k

@@ -1,0 +1,19 @@
+-- `closing::statements::clash_at` meets its contract. An equation is no clash; past the columns both sides read as row 0.
+-- Assumes nothing.
+use Rattle.closing.proofs.Clashes.{mine}
+use Rattle.closing.proofs.statements.clash_at.Goals as goal
+
+pub kind_at-requires : goal.kind_at-requires
+kind_at-requires c = search mine
+
+pub returns-then-kind_at-eq2 : goal.returns-then-kind_at-eq2
+returns-then-kind_at-eq2 c = search mine
+
+pub side_class-requires : goal.side_class-requires
+side_class-requires c = search mine
+
+pub side_class-requires-2 : goal.side_class-requires-2
+side_class-requires-2 c = search mine
+
+pub returns : goal.returns
+returns c = search mine

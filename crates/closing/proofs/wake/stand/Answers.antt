@@ -1,0 +1,21 @@
+use Prim.Native.Nat.{◌-◌}
+use Rattle.closing.proofs.Nearing.{mine}
+use Rattle.closing.proofs.wake.stand.Goals as goal
+
+pub loop-k-init : goal.loop-k-init
+loop-k-init c = search mine
+
+pub arg_class-class-requires : goal.arg_class-class-requires
+arg_class-class-requires c = search mine
+
+pub wide-requires : goal.wide-requires
+wide-requires c = search mine
+
+pub carry-requires : goal.carry-requires
+carry-requires c = search mine
+
+pub loop-k-preserved : goal.loop-k-preserved
+loop-k-preserved c = search mine
+
+pub returns : goal.returns
+returns c = search mine
