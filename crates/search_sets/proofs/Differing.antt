@@ -68,7 +68,7 @@ pub part-back : (old new apart : List ℕ) (size most scratch count width n p q 
 part-back old new apart size most scratch count width n p q r h c e =
     record {
       pair = record {
-        room = record { few = h.pair.room.few; narrow = h.pair.room.narrow; long = omega (arith, e, c.steps.auto.long, h.pair.room.long) };
+        room = record { few = h.pair.room.few; narrow = h.pair.room.narrow; long = omega (arith, e, c.steps.kept.long, h.pair.room.long) };
         left = h.pair.right;
         right = h.pair.left;
       };

@@ -12,7 +12,7 @@ pub all-requires : goal.all-requires
 all-requires c = search mine
 
 pub returns-then-not-fit_context : goal.returns-then-not-fit_context
-returns-then-not-fit_context c = marks-unfit _ _ _ _ _ _ _ _ _ (decides_not c.fit_context.ensures.fit c.if-not-fit_context.true) _ c.all.ensures
+returns-then-not-fit_context c = record { marks = marks-unfit _ _ _ _ _ _ _ _ _ (decides_not c.fit_context.ensures.fit c.if-not-fit_context.true) _ c.all.ensures }
 
 pub follows-requires : goal.follows-requires
 follows-requires c = search mine
@@ -22,16 +22,15 @@ all-requires-then-follows c = search mine
 
 pub returns-then-follows : goal.returns-then-follows
 returns-then-follows c =
-    marks-clash _ _ _ _ _ _ _ _ _ (c.fit_context.ensures.fit.holds c.if-not-fit_context.false) _ c.follows.ensures c.if-follows.true _ c.all-then-follows.ensures
+    record { marks = marks-clash _ _ _ _ _ _ _ _ _ (c.fit_context.ensures.fit.holds c.if-not-fit_context.false) _ c.follows.ensures c.if-follows.true _ c.all-then-follows.ensures }
 
 pub none-marks-requires : goal.none-marks-requires
 none-marks-requires c = search mine
 
 pub mark_rows-requires : goal.mark_rows-requires
 mark_rows-requires c =
-    let fit = c.fit_context.ensures in
     let so = c.if-not-fit_context.false in
-    (fit-rows _ _ _ _ _ _ _ _ (fit.0.holds so) (fit.1 so)).laid
+    (fit-rows _ _ _ _ _ _ _ _ (c.fit_context.ensures.fit.holds so) (c.fit_context.ensures.laid so)).laid
 
 pub mark_sides-requires : goal.mark_sides-requires
 mark_sides-requires c =
@@ -39,6 +38,6 @@ mark_sides-requires c =
 
 pub returns : goal.returns
 returns c =
-    marks-all _ _ _ _ _ _ _ _ _ (c.fit_context.ensures.fit.holds c.if-not-fit_context.false) _ c.follows.ensures c.if-follows.false _ _ _ c.none-marks.ensures
+    record { marks = marks-all _ _ _ _ _ _ _ _ _ (c.fit_context.ensures.fit.holds c.if-not-fit_context.false) _ c.follows.ensures c.if-follows.false _ _ _ c.none-marks.ensures
     c.mark_rows.ensures
-    c.mark_sides.ensures
+    c.mark_sides.ensures }

@@ -21,12 +21,9 @@ returns-then-not-orderly c = record { clashes = clashes-stray _ _ _ _ _ _ _ _ _ 
 
 pub clashes_ready-requires : goal.clashes_ready-requires
 clashes_ready-requires c =
-    let fit = c.fit_context.ensures in
     let so = c.if-not-fit_context.false in
-    record { fit_rows = fit-rows _ _ _ _ _ _ _ _ (fit.0.holds so) (fit.1 so); orderly = c.orderly.ensures.holds c.if-not-orderly.false }
+    record { fit_rows = fit-rows _ _ _ _ _ _ _ _ (c.fit_context.ensures.fit.holds so) (c.fit_context.ensures.laid so); orderly = c.orderly.ensures.holds c.if-not-orderly.false }
 
 pub returns : goal.returns
-returns c = (
-  c.clashes_ready.ensures,
-  λ n. absurd (n (c.fit_context.ensures.fit.holds c.if-not-fit_context.false) (c.orderly.ensures.holds c.if-not-orderly.false)),
-)
+returns c =
+    record { clashes = c.clashes_ready.ensures.clashes; unfit = λ n. absurd (n (c.fit_context.ensures.fit.holds c.if-not-fit_context.false) (c.orderly.ensures.holds c.if-not-orderly.false)) }

@@ -10,21 +10,20 @@ pub fit_context-requires : goal.fit_context-requires
 fit_context-requires c = search rules
 
 pub returns-then-not-fit_context : goal.returns-then-not-fit_context
-returns-then-not-fit_context c = record { so = (λ f s. decides_not c.fit_context.ensures.fit c.if-not-fit_context.true f, refl) }
+returns-then-not-fit_context c = record { closes = record { so = (λ f s. decides_not c.fit_context.ensures.fit c.if-not-fit_context.true f, refl) } }
 
 pub startable-requires : goal.startable-requires
 startable-requires c = search rules
 
 pub returns-then-not-startable : goal.returns-then-not-startable
-returns-then-not-startable c = record { so = (λ f s. decides_not c.startable.ensures c.if-not-startable.true s, refl) }
+returns-then-not-startable c = record { closes = record { so = (λ f s. decides_not c.startable.ensures c.if-not-startable.true s, refl) } }
 
 pub settle_with-requires : goal.settle_with-requires
 settle_with-requires c =
-    let fit = c.fit_context.ensures in
     let so = c.if-not-fit_context.false in
-    record { fit_rows = fit-rows _ _ _ _ _ _ _ _ (fit.0.holds so) (fit.1 so); startable = c.startable.ensures.holds c.if-not-startable.false }
+    record { fit_rows = fit-rows _ _ _ _ _ _ _ _ (c.fit_context.ensures.fit.holds so) (c.fit_context.ensures.laid so); startable = c.startable.ensures.holds c.if-not-startable.false }
 
 pub returns : goal.returns
 returns c =
     let fit = c.fit_context.ensures.fit.holds c.if-not-fit_context.false in
-    record { so = furthers-closed _ _ _ _ _ _ _ _ _ _ _ _ fit (c.startable.ensures.holds c.if-not-startable.false) c.settle_with.ensures }
+    record { closes = record { so = furthers-closed _ _ _ _ _ _ _ _ _ _ _ _ fit (c.startable.ensures.holds c.if-not-startable.false) c.settle_with.ensures } }

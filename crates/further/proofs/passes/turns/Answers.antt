@@ -22,5 +22,8 @@ follow-requires c = search mine
 pub sum-old-requires-in-loop-old : goal.sum-old-requires-in-loop-old
 sum-old-requires-in-loop-old c = search mine
 
+pub loop-old-smaller : goal.loop-old-smaller
+loop-old-smaller c = search mine
+
 pub loop-old-preserved : goal.loop-old-preserved
 loop-old-preserved c = search mine

@@ -1,0 +1,25 @@
+-- `grounds::main` answers the bytes that were read, and its run has room.
+-- Assumes nothing.
+use Rattle.grounds.proofs.Handing.{mine}
+use Rattle.grounds.proofs.main.Goals as goal
+
+pub input_space-input-requires : goal.input_space-input-requires
+input_space-input-requires c = search mine
+
+pub take_input-got-requires : goal.take_input-got-requires
+take_input-got-requires c = search mine
+
+pub answer-requires : goal.answer-requires
+answer-requires c = search mine
+
+pub report-requires : goal.report-requires
+report-requires c = search mine
+
+pub tell-requires : goal.tell-requires
+tell-requires c = search mine
+
+pub returns-in-Bytes : goal.returns-in-Bytes
+returns-in-Bytes c = search mine
+
+pub returns-in-Failed : goal.returns-in-Failed
+returns-in-Failed c = search mine

@@ -1,0 +1,18 @@
+use Prim.Native.Nat.{◌-◌}
+use Rattle.grounds_classes.proofs.Classing.{mine}
+use Rattle.grounds_classes.proofs.classes.size.Goals as goal
+
+pub loop-z-init : goal.loop-z-init
+loop-z-init c = search mine
+
+pub label-requires : goal.label-requires
+label-requires c = search mine
+
+pub hit-count-requires : goal.hit-count-requires
+hit-count-requires c = search mine
+
+pub loop-z-preserved : goal.loop-z-preserved
+loop-z-preserved c = search mine
+
+pub returns : goal.returns
+returns c = search mine

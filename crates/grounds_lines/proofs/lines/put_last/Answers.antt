@@ -1,0 +1,10 @@
+-- `grounds_lines::lines::put_last` meets its contract: a feed behind two numbers.
+-- Assumes nothing.
+use Rattle.grounds_lines.proofs.Frames.{mine}
+use Rattle.grounds_lines.proofs.lines.put_last.Goals as goal
+
+pub put_two-requires : goal.put_two-requires
+put_two-requires c = search mine
+
+pub returns : goal.returns
+returns c = search mine

@@ -1,0 +1,13 @@
+-- `grounds_marks::note` meets its contract. The number is within the limit, or nothing is marked.
+-- Assumes nothing.
+use Rattle.grounds_marks.proofs.Marking.{mine}
+use Rattle.grounds_marks.proofs.note.Goals as goal
+
+pub usize_of_u16-i-requires : goal.usize_of_u16-i-requires
+usize_of_u16-i-requires c = search mine
+
+pub returns-then-i-limit : goal.returns-then-i-limit
+returns-then-i-limit c = search mine
+
+pub returns-else-i-limit : goal.returns-else-i-limit
+returns-else-i-limit c = search mine

@@ -1,0 +1,13 @@
+-- `grounds_words::words::mark_of` meets its contract. The entry is a context row, or a pattern row.
+-- Assumes nothing.
+use Rattle.grounds_words.proofs.Wording.{mine}
+use Rattle.grounds_words.proofs.words.mark_of.Goals as goal
+
+pub usize_of_u16-i-requires : goal.usize_of_u16-i-requires
+usize_of_u16-i-requires c = search mine
+
+pub returns-then-i-rows : goal.returns-then-i-rows
+returns-then-i-rows c = search mine
+
+pub returns-else-i-rows : goal.returns-else-i-rows
+returns-else-i-rows c = search mine

@@ -1,0 +1,16 @@
+-- `hunt` meets its contract: what is laid out says what the runs say, and nothing is known of pairs.
+-- Assumes nothing.
+use Rattle.hunting.proofs.Laying.{mine}
+use Rattle.hunting.proofs.hunt.Goals as goal
+
+pub lay-l-requires : goal.lay-l-requires
+lay-l-requires c = search mine
+
+pub unknown-known-requires : goal.unknown-known-requires
+unknown-known-requires c = search mine
+
+pub hunt_with-requires : goal.hunt_with-requires
+hunt_with-requires c = search mine
+
+pub returns : goal.returns
+returns c = search mine

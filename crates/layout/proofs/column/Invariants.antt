@@ -1,0 +1,12 @@
+-- `column` meets its contract. The invariant: the first i places are set. The measure is how many are left.
+-- Assumes nothing.
+use Prim.Native.Nat.{◌-◌}
+use Rattle.layout.specs.Columns.{number_at}
+use Rattle.layout.proofs.Laying.{Laid}
+use Rattle.layout.proofs.column.Given as goal
+
+abbrev pub invariant-loop-i : goal.invariant-loop-i
+invariant-loop-i l = Laid (number_at l.run l.size l.from) l.n l.initial.out l.out l.i
+
+abbrev pub decreases-loop-i : goal.decreases-loop-i
+decreases-loop-i l = l.n - l.i

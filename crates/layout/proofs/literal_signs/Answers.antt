@@ -1,0 +1,13 @@
+-- `literal_signs` meets its contract: a column that was all zeros is filled up to the last piece.
+-- Assumes nothing.
+use Rattle.layout.proofs.Laying.{mine}
+use Rattle.layout.proofs.literal_signs.Goals as goal
+
+pub literal_count-requires : goal.literal_count-requires
+literal_count-requires c = search mine
+
+pub byte_column-requires : goal.byte_column-requires
+byte_column-requires c = search mine
+
+pub returns : goal.returns
+returns c = search mine

@@ -1,0 +1,19 @@
+-- `normal::write_with` meets its contract: the sorted keys give the text's size, and where there is room its lines are put.
+-- Assumes nothing.
+use Rattle.normaliser.proofs.Whole.{mine}
+use Rattle.normaliser.proofs.normal.write_with.Goals as goal
+
+pub sorted_keys-n-requires : goal.sorted_keys-n-requires
+sorted_keys-n-requires c = search mine
+
+pub text_length-length-requires : goal.text_length-length-requires
+text_length-length-requires c = search mine
+
+pub returns-then-lent-length : goal.returns-then-lent-length
+returns-then-lent-length c = search mine
+
+pub put_text-requires : goal.put_text-requires
+put_text-requires c = search mine
+
+pub returns : goal.returns
+returns c = search mine

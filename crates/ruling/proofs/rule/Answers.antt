@@ -1,0 +1,13 @@
+-- `rule` meets its contract: what was read and closed is ruled on, the refusals in their order.
+-- Assumes nothing.
+use Rattle.ruling.proofs.Ruling.{mine}
+use Rattle.ruling.proofs.rule.Goals as goal
+
+pub close-closed-requires : goal.close-closed-requires
+close-closed-requires c = search mine
+
+pub answer_for-answer-requires : goal.answer_for-answer-requires
+answer_for-answer-requires c = search mine
+
+pub returns : goal.returns
+returns c = search mine

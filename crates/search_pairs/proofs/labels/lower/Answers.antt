@@ -1,0 +1,27 @@
+-- `search_pairs::labels::lower` meets its contract. Marks, labels, and the class that gave way is known.
+-- Assumes nothing.
+use mathlib.Core.Path.{refl}
+use borrow.Author.Rules.{rules}
+use Rattle.search_pairs.proofs.Joining.{lower-laid, lower-joined, joins}
+use Rattle.search_pairs.proofs.labels.lower.Goals as goal
+
+pub lighter-z-requires : goal.lighter-z-requires
+lighter-z-requires c = search joins
+
+pub mark_over-requires : goal.mark_over-requires
+mark_over-requires c = search joins
+
+pub relabel-requires : goal.relabel-requires
+relabel-requires c =
+    record { space = search joins; labelled = lower-laid _ _ _ _ _ _ (search rules) c.mark_over.ensures; lo_lt_hi = (search joins, search joins) }
+
+pub words-requires : goal.words-requires
+words-requires c = search joins
+
+pub insert-requires : goal.insert-requires
+insert-requires c = search joins
+
+pub returns : goal.returns
+returns c =
+    lower-joined _ _ _ _ _ _ _ _ _ _ _ _ c.requires.lo_lt_hi c.lighter-z.ensures c.mark_over.ensures c.relabel.ensures c.words.ensures refl
+    c.insert.ensures

@@ -1,0 +1,16 @@
+-- `search_pairs::labels::meet` meets its contract. Members are kept apart, and nothing changes; or the labels are joined.
+-- Assumes nothing.
+use Rattle.search_pairs.proofs.Joining.{joins}
+use Rattle.search_pairs.proofs.labels.meet.Goals as goal
+
+pub clashing-requires : goal.clashing-requires
+clashing-requires c = record { space = search joins; labelled = search joins; n_in_bounds = search joins; labels = search joins }
+
+pub returns-then-clashing : goal.returns-then-clashing
+returns-then-clashing c = search joins
+
+pub join-requires : goal.join-requires
+join-requires c = search joins
+
+pub returns : goal.returns
+returns c = search joins

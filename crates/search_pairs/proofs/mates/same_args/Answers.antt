@@ -1,0 +1,22 @@
+use Prim.Native.Nat.{◌-◌}
+use Rattle.search_pairs.proofs.Rows.{agreeing-next, mine}
+use Rattle.search_pairs.proofs.mates.same_args.Goals as goal
+
+pub loop-k-init : goal.loop-k-init
+loop-k-init c = search mine
+
+pub arg_label-requires : goal.arg_label-requires
+arg_label-requires c = search mine
+
+pub arg_label-requires-in-loop-k : goal.arg_label-requires-in-loop-k
+arg_label-requires-in-loop-k c = search mine
+
+pub returns-then-arg_label : goal.returns-then-arg_label
+returns-then-arg_label c = search mine
+
+pub loop-k-preserved : goal.loop-k-preserved
+loop-k-preserved c =
+    agreeing-next c.loop-k.invariant c.loop-k-test.true c.arg_label.ensures c.arg_label-in-loop-k.ensures c.if-arg_label.false
+
+pub returns : goal.returns
+returns c = search mine

@@ -1,0 +1,12 @@
+use Prim.Native.Nat.{◌-◌}
+use Rattle.search_sets.proofs.Writing.{mine}
+use Rattle.search_sets.proofs.words.copy.Goals as goal
+
+pub loop-i-init : goal.loop-i-init
+loop-i-init c = search mine
+
+pub loop-i-preserved : goal.loop-i-preserved
+loop-i-preserved c = search mine
+
+pub returns : goal.returns
+returns c = search mine

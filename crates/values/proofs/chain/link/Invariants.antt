@@ -1,0 +1,13 @@
+-- `values::chain::link` meets its contract.
+-- Assumes nothing.
+use Prim.Native.Nat.{◌≤◌}
+use mathlib.Core.Path.{◌≡◌}
+use lib.ListN.{length}
+use Rattle.values.specs.Chains.{Linked}
+use Rattle.values.proofs.chain.link.Given as goal
+
+abbrev pub invariant-loop-i : goal.invariant-loop-i
+invariant-loop-i l = (l.i ≤ l.rows) × (length l.first ≡ 256) × (length l.next ≡ 255) × Linked l.symbols l.rows l.i l.first l.next
+
+abbrev pub decreases-loop-i : goal.decreases-loop-i
+decreases-loop-i l = l.i

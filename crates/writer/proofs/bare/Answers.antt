@@ -1,0 +1,10 @@
+-- `writer::bare` meets its contract. A reply with no step and no conclusion.
+-- Assumes nothing.
+use Rattle.writer.proofs.Made.{mine}
+use Rattle.writer.proofs.bare.Goals as goal
+
+pub no_conclusions-conclusions-requires : goal.no_conclusions-conclusions-requires
+no_conclusions-conclusions-requires c = search mine
+
+pub returns : goal.returns
+returns c = search mine
