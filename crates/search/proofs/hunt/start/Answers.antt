@@ -18,7 +18,12 @@ unset-requires c = search rules
 
 pub enter-requires : goal.enter-requires
 enter-requires c =
-    (ready-hunting c.requires.ready c.link-chains.ensures, ((omega arith, chosen-start _ c.unset.ensures), c.requires.1))
+    record {
+      hunting = ready-hunting c.requires.ready c.link-chains.ensures;
+      k_le_variables = (omega arith, chosen-start _ c.unset.ensures);
+      closed_by = c.requires.closed_by;
+      knows = c.requires.knows;
+    }
 
 pub returns : goal.returns
 returns c = record { value = c.enter.ensures.value ∙ ap answer_of (start-enter _ _ _ _ _ _ c.unset.ensures c.unread-values.ensures); knows_2 = c.enter.ensures.knows_2 }

@@ -2,6 +2,9 @@ use Prim.Native.Nat.{◌-◌}
 use Rattle.writer.proofs.Turning.{mine, next}
 use Rattle.writer.proofs.drawing.draw_each.Goals as goal
 
+pub bounds-cells-0 : goal.bounds-cells-0
+bounds-cells-0 c = search mine
+
 pub literal_count-many-requires : goal.literal_count-many-requires
 literal_count-many-requires c = search mine
 
