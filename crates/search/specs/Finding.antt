@@ -17,7 +17,7 @@ use Rattle.meaning.specs.FirstBy.{first_by}
 use Rattle.columns.specs.Fit.{FitContext, FitClause}
 use Rattle.closing.specs.declared.Contradiction.{Contradiction}
 use Rattle.closing.specs.declared.Contradiction.TheVariants as C
-use Rattle.search.specs.declared.Kind.TheVariants.{Clear, Unfit}
+use Rattle.search.specs.declared.Kind.TheVariants.{Unfit}
 use Rattle.search.specs.declared.Reply.{Reply}
 use Rattle.meaning.specs.Next.{next_by}
 use Rattle.search.specs.Hunting.{answer_of}

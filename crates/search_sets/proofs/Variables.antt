@@ -12,7 +12,6 @@ use Prim.Native.Nat.{ℕ, ◌+◌, ◌*◌, ◌≤◌, ◌<◌}
 use native.Mathlib.Omega.{arith}
 use borrow.Author.Rules.{rules}
 use lib.ListN.{length, get_or}
-use Rattle.meaning.specs.Rules.{variable}
 use Rattle.meaning.specs.Values.{number_at, numbers}
 use Rattle.meaning.proofs.Logic.{and_both, false-true}
 use Rattle.bits.specs.Sets.{bit_at, has, Places, Met}

@@ -1,5 +1,4 @@
 use mathlib.Core.Path.{refl}
-use Prim.Native.Nat.{◌-◌}
 use Rattle.bits.proofs.Loops.{mine, low-some}
 use Rattle.bits.proofs.lowest.Goals as goal
 

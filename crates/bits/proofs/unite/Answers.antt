@@ -1,4 +1,3 @@
-use Prim.Native.Nat.{◌-◌}
 use Rattle.bits.proofs.Loops.{mine}
 use Rattle.bits.proofs.unite.Goals as goal
 

@@ -1,4 +1,3 @@
-use Prim.Native.Nat.{◌-◌}
 use Rattle.classes.proofs.Clashes.{mine}
 use Rattle.classes.proofs.clash.Goals as goal
 

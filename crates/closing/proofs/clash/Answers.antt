@@ -1,4 +1,3 @@
-use Prim.Native.Nat.{◌-◌}
 use Rattle.closing.proofs.Clashes.{mine}
 use Rattle.closing.proofs.clash.Goals as goal
 

@@ -1,6 +1,5 @@
 use native.Mathlib.Omega.{arith}
 use Rattle.columns.proofs.Deciding.{every_more, mine}
-use Prim.Native.Nat.{◌-◌}
 use Rattle.columns.proofs.named.Goals as goal
 
 pub loop-j-init : goal.loop-j-init

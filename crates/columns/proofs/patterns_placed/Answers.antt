@@ -1,5 +1,4 @@
 use Rattle.columns.proofs.Deciding.{decides_not, every_more, every-fails, mine}
-use Prim.Native.Nat.{◌-◌}
 use Rattle.columns.proofs.patterns_placed.Goals as goal
 
 pub loop-i-init : goal.loop-i-init

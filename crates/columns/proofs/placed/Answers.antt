@@ -1,6 +1,5 @@
 use native.Mathlib.Omega.{arith}
 use Rattle.columns.proofs.Deciding.{every_more, mine}
-use Prim.Native.Nat.{◌-◌}
 use Rattle.columns.proofs.placed.Goals as goal
 
 pub wide8-n-requires : goal.wide8-n-requires

@@ -38,6 +38,8 @@ mark_sides-requires c =
 
 pub returns : goal.returns
 returns c =
-    record { marks = marks-all _ _ _ _ _ _ _ _ _ (c.fit_context.ensures.fit.holds c.if-not-fit_context.false) _ c.follows.ensures c.if-follows.false _ _ _ c.none-marks.ensures
-    c.mark_rows.ensures
-    c.mark_sides.ensures }
+    record {
+      marks = marks-all _ _ _ _ _ _ _ _ _ (c.fit_context.ensures.fit.holds c.if-not-fit_context.false) _ c.follows.ensures c.if-follows.false _ _ _ c.none-marks.ensures
+          c.mark_rows.ensures
+          c.mark_sides.ensures;
+    }

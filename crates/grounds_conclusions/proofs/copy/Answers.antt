@@ -1,4 +1,3 @@
-use Prim.Native.Nat.{◌-◌}
 use Rattle.grounds_conclusions.proofs.Sayings.{copying}
 use Rattle.grounds_conclusions.proofs.copy.Goals as goal
 

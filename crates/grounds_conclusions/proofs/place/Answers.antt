@@ -1,4 +1,3 @@
-use Prim.Native.Nat.{◌-◌}
 use Rattle.grounds_conclusions.proofs.Sayings.{placing}
 use Rattle.grounds_conclusions.proofs.place.Goals as goal
 

@@ -1,4 +1,3 @@
-use Prim.Native.Nat.{◌-◌}
 use Rattle.grounds_intake.specs.Machine.{fed}
 use Rattle.grounds_intake.proofs.Ways.{ends}
 use Rattle.grounds_intake.proofs.feed.Goals as goal

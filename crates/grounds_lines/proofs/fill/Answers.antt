@@ -1,4 +1,3 @@
-use Prim.Native.Nat.{◌-◌}
 use Rattle.grounds_lines.proofs.Filling.{mine}
 use Rattle.grounds_lines.proofs.fill.Goals as goal
 

@@ -1,4 +1,3 @@
-use Prim.Native.Nat.{◌-◌}
 use Rattle.grounds_words.proofs.Emitting.{mine}
 use Rattle.grounds_words.proofs.send.Goals as goal
 

@@ -1,4 +1,3 @@
-use Prim.Native.Nat.{◌-◌}
 use mathlib.Core.Path.{refl}
 use Rattle.layout.proofs.Laying.{arg-place, mine}
 use Rattle.layout.proofs.arguments.Goals as goal

@@ -1,4 +1,3 @@
-use Prim.Native.Nat.{◌-◌}
 use Rattle.layout.proofs.Laying.{column-place, byte_next, mine}
 use Rattle.layout.proofs.byte_column.Goals as goal
 

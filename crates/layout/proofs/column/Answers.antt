@@ -1,4 +1,3 @@
-use Prim.Native.Nat.{◌-◌}
 use Rattle.layout.proofs.Laying.{column-place, mine}
 use Rattle.layout.proofs.column.Goals as goal
 

@@ -1,4 +1,3 @@
-use Prim.Native.Nat.{◌-◌}
 use Rattle.listing.proofs.Filling.{mine}
 use Rattle.listing.proofs.fill.Goals as goal
 

@@ -1,4 +1,3 @@
-use Prim.Native.Nat.{◌-◌}
 use Rattle.listing.proofs.Lines.{mine}
 use Rattle.listing.proofs.put.Goals as goal
 

@@ -1,6 +1,5 @@
 -- `records::listed` meets its contract: there is room for no more records than there are, and for no more than the most rows.
 -- Assumes nothing.
-use mathlib.Core.Path.{◌≡◌}
 use Rattle.records.specs.Layouts.{list_of}
 use Rattle.records.proofs.Room.{room-few, room_fits}
 use Rattle.records.proofs.listed.Goals as goal

@@ -1,4 +1,3 @@
-use Prim.Native.Nat.{◌-◌}
 use Rattle.search_values.proofs.Indexing.{mine}
 use Rattle.search_values.proofs.fill.Goals as goal
 

@@ -1,4 +1,3 @@
-use Prim.Native.Nat.{◌-◌}
 use Rattle.search_values.proofs.Reading.{mine}
 use Rattle.search_values.proofs.read.Goals as goal
 

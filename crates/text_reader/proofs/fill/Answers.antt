@@ -1,4 +1,3 @@
-use Prim.Native.Nat.{◌-◌}
 use Rattle.text_reader.proofs.Standing.{mine}
 use Rattle.text_reader.proofs.fill.Goals as goal
 

@@ -1,5 +1,4 @@
 use Rattle.classes.proofs.Chains.{mine}
-use Prim.Native.Nat.{◌-◌}
 use Rattle.classes.proofs.mates.join_rows.Goals as goal
 
 pub row_count-n-requires : goal.row_count-n-requires

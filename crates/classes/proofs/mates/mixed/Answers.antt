@@ -1,4 +1,3 @@
-use Prim.Native.Nat.{◌-◌}
 use Rattle.classes.proofs.Rows.{mine}
 use Rattle.classes.proofs.mates.mixed.Goals as goal
 

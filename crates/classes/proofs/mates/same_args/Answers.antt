@@ -1,5 +1,4 @@
 use Rattle.classes.proofs.Rows.{mine}
-use Prim.Native.Nat.{◌-◌}
 use Rattle.classes.proofs.mates.same_args.Goals as goal
 
 pub loop-k-init : goal.loop-k-init

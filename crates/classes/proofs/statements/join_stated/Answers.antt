@@ -1,4 +1,3 @@
-use Prim.Native.Nat.{◌-◌}
 use Rattle.classes.proofs.Stated.{mine}
 use Rattle.classes.proofs.statements.join_stated.Goals as goal
 

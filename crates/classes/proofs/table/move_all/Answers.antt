@@ -1,4 +1,3 @@
-use Prim.Native.Nat.{◌-◌}
 use Rattle.classes.proofs.Tables.{mine}
 use Rattle.classes.proofs.table.move_all.Goals as goal
 

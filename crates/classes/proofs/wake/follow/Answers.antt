@@ -1,4 +1,3 @@
-use Prim.Native.Nat.{◌-◌}
 use Rattle.classes.proofs.Nearing.{mine}
 use Rattle.classes.proofs.wake.follow.Goals as goal
 

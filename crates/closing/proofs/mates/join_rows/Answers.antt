@@ -1,5 +1,4 @@
 use mathlib.Core.Path.{refl}
-use Prim.Native.Nat.{◌-◌}
 use Rattle.closing.proofs.Chains.{passing-links, passing-head, passing-next, mine}
 use Rattle.closing.proofs.mates.join_rows.Goals as goal
 

@@ -1,4 +1,3 @@
-use Prim.Native.Nat.{◌-◌}
 use Rattle.closing.proofs.Rows.{mine}
 use Rattle.closing.proofs.mates.mixed.Goals as goal
 

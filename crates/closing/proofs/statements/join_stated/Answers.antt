@@ -1,4 +1,3 @@
-use Prim.Native.Nat.{◌-◌}
 use Rattle.closing.proofs.Stated.{mine}
 use Rattle.closing.proofs.statements.join_stated.Goals as goal
 

@@ -1,4 +1,3 @@
-use Prim.Native.Nat.{◌-◌}
 use Rattle.closing.proofs.Tables.{mine}
 use Rattle.closing.proofs.table.move_class.Goals as goal
 

@@ -1,4 +1,3 @@
-use Prim.Native.Nat.{◌-◌}
 use Rattle.closing.proofs.Tables.{mine}
 use Rattle.closing.proofs.table.sum.Goals as goal
 

@@ -1,4 +1,3 @@
-use Prim.Native.Nat.{◌-◌}
 use Rattle.closing.proofs.Nearing.{mine}
 use Rattle.closing.proofs.wake.follow.Goals as goal
 

@@ -1,4 +1,3 @@
-use Prim.Native.Nat.{◌-◌}
 use Rattle.further.proofs.Raising.{mine}
 use Rattle.further.proofs.busy.mark_rows.Goals as goal
 

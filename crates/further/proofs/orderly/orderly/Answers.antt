@@ -1,4 +1,3 @@
-use Prim.Native.Nat.{◌-◌}
 use Rattle.further.proofs.Tests.{mine}
 use Rattle.further.proofs.orderly.orderly.Goals as goal
 

@@ -1,4 +1,3 @@
-use Prim.Native.Nat.{◌-◌}
 use Rattle.grounds_classes.proofs.Classing.{mine}
 use Rattle.grounds_classes.proofs.classes.size.Goals as goal
 

@@ -1,4 +1,3 @@
-use Prim.Native.Nat.{◌-◌}
 use Rattle.grounds_classes.proofs.Rounding.{passing}
 use Rattle.grounds_classes.proofs.rounds.row_pass.Goals as goal
 

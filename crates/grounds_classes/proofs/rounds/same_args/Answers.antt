@@ -1,4 +1,3 @@
-use Prim.Native.Nat.{◌-◌}
 use Rattle.grounds_classes.proofs.Rounding.{comparing}
 use Rattle.grounds_classes.proofs.rounds.same_args.Goals as goal
 

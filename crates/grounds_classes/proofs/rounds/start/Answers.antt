@@ -1,4 +1,3 @@
-use Prim.Native.Nat.{◌-◌}
 use Rattle.grounds_classes.proofs.Rounding.{starting}
 use Rattle.grounds_classes.proofs.rounds.start.Goals as goal
 

@@ -1,4 +1,3 @@
-use Prim.Native.Nat.{◌-◌}
 use Rattle.grounds_classes.proofs.Rounding.{stating}
 use Rattle.grounds_classes.proofs.rounds.state_all.Goals as goal
 

@@ -1,5 +1,4 @@
 use Rattle.grounds_numbers.proofs.Keying.{mine}
-use Prim.Native.Nat.{◌-◌}
 use Rattle.grounds_numbers.proofs.keys.like.Goals as goal
 
 pub loop-j-init : goal.loop-j-init

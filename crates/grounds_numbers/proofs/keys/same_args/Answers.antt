@@ -1,5 +1,4 @@
 use Rattle.grounds_numbers.proofs.Keying.{mine}
-use Prim.Native.Nat.{◌-◌}
 use Rattle.grounds_numbers.proofs.keys.same_args.Goals as goal
 
 pub loop-k-init : goal.loop-k-init

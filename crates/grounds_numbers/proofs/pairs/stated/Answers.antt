@@ -1,5 +1,4 @@
 use Rattle.grounds_numbers.proofs.Pairing.{mine}
-use Prim.Native.Nat.{◌-◌}
 use Rattle.grounds_numbers.proofs.pairs.stated.Goals as goal
 
 pub said_count-n-requires : goal.said_count-n-requires

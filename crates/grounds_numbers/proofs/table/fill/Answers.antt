@@ -1,5 +1,4 @@
 use Rattle.grounds_numbers.proofs.Extending.{mine}
-use Prim.Native.Nat.{◌-◌}
 use Rattle.grounds_numbers.proofs.table.fill.Goals as goal
 
 pub entry_count-n-requires : goal.entry_count-n-requires

@@ -1,5 +1,4 @@
 use Rattle.grounds_verdict.proofs.Running.{mine}
-use Prim.Native.Nat.{◌-◌}
 use Rattle.grounds_verdict.proofs.assignment.first_unassigned.Goals as goal
 
 pub loop-v-init : goal.loop-v-init

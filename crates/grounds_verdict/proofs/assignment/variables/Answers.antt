@@ -1,5 +1,4 @@
 use Rattle.grounds_verdict.proofs.Assigning.{mine}
-use Prim.Native.Nat.{◌-◌}
 use Rattle.grounds_verdict.proofs.assignment.variables.Goals as goal
 
 pub pattern_count-m-requires : goal.pattern_count-m-requires

@@ -1,5 +1,4 @@
 use Rattle.grounds_verdict.proofs.Running.{mine}
-use Prim.Native.Nat.{◌-◌}
 use Rattle.grounds_verdict.proofs.literals.first_open.Goals as goal
 
 pub literal_count-m-requires : goal.literal_count-m-requires

@@ -1,5 +1,4 @@
 use Rattle.grounds_verdict.proofs.Ways.{mine}
-use Prim.Native.Nat.{◌-◌}
 use Rattle.grounds_verdict.proofs.steps.arguments.Goals as goal
 
 pub loop-k-init : goal.loop-k-init

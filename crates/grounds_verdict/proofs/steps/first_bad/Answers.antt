@@ -1,5 +1,4 @@
 use Rattle.grounds_verdict.proofs.Running.{mine}
-use Prim.Native.Nat.{◌-◌}
 use Rattle.grounds_verdict.proofs.steps.first_bad.Goals as goal
 
 pub loop-i-init : goal.loop-i-init

@@ -1,4 +1,3 @@
-use Prim.Native.Nat.{◌-◌}
 use Rattle.normaliser.proofs.Pairs.{mine}
 use Rattle.normaliser.proofs.normal.put_joins.Goals as goal
 

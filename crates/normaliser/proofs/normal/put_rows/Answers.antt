@@ -1,4 +1,3 @@
-use Prim.Native.Nat.{◌-◌}
 use Rattle.normaliser.proofs.Rows.{mine}
 use Rattle.normaliser.proofs.normal.put_rows.Goals as goal
 

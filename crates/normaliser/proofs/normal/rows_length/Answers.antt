@@ -1,4 +1,3 @@
-use Prim.Native.Nat.{◌-◌}
 use Rattle.normaliser.proofs.Rows.{mine}
 use Rattle.normaliser.proofs.normal.rows_length.Goals as goal
 

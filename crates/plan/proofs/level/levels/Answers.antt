@@ -1,4 +1,3 @@
-use Prim.Native.Nat.{◌-◌}
 use mathlib.Core.Path.{◌≡◌, subst}
 use Rattle.meaning.specs.Columns.{patterns_from}
 use Rattle.meaning.specs.Values.{levels as levels_of}

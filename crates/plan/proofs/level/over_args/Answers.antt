@@ -1,5 +1,4 @@
 use mathlib.Core.Path.{refl}
-use Prim.Native.Nat.{◌-◌}
 use Rattle.meaning.specs.Values.{highest}
 use Rattle.plan.proofs.Levels.{highest-next, highest-done}
 use borrow.Author.Rules.{rules}

@@ -1,4 +1,3 @@
-use Prim.Native.Nat.{◌-◌}
 use mathlib.Core.Path.{◌≡◌, ap, ◌∙◌}
 use Rattle.meaning.specs.Rules.{variables}
 use Rattle.meaning.specs.Columns.{patterns_from}

@@ -1,4 +1,3 @@
-use Prim.Native.Nat.{◌-◌}
 use mathlib.Core.Path.{refl}
 use Rattle.plan.proofs.Reaching.{frees-start, frees-next, frees-done}
 use borrow.Author.Rules.{rules}

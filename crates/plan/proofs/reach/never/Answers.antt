@@ -1,8 +1,5 @@
-use Prim.Native.Nat.{◌-◌}
-use mathlib.Core.Bool.{false}
 use mathlib.Core.Path.{sym, ◌∙◌}
 use Rattle.columns.proofs.Deciding.{every-none, every_more}
-use Rattle.plan.specs.Reach.{self_unequal}
 use Rattle.plan.proofs.Reaching.{never-none, never-some}
 use borrow.Author.Rules.{rules}
 use Rattle.plan.proofs.reach.never.Goals as goal

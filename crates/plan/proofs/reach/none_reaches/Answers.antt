@@ -1,8 +1,5 @@
-use Prim.Native.Nat.{◌-◌}
-use mathlib.Core.Bool.{false}
 use mathlib.Core.Path.{sym, ◌∙◌}
 use Rattle.columns.proofs.Deciding.{every-none, every_more}
-use Rattle.plan.specs.Marks.{reaches}
 use Rattle.plan.proofs.Reaching.{none_done, none-fails}
 use native.Mathlib.Omega.{arith}
 use Rattle.plan.proofs.reach.none_reaches.Goals as goal

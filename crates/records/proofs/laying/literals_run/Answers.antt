@@ -1,4 +1,3 @@
-use Prim.Native.Nat.{◌-◌}
 use Rattle.records.proofs.Filling.{mine}
 use Rattle.records.proofs.laying.literals_run.Goals as goal
 

@@ -1,4 +1,3 @@
-use Prim.Native.Nat.{◌-◌}
 use Rattle.reply_lines.proofs.Lines.{mine}
 use Rattle.reply_lines.proofs.hex.put_frame.Goals as goal
 

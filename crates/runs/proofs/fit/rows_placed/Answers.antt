@@ -1,4 +1,3 @@
-use Prim.Native.Nat.{◌-◌}
 use Rattle.runs.proofs.Deciding.{mine}
 use Rattle.runs.proofs.fit.rows_placed.Goals as goal
 

@@ -1,4 +1,3 @@
-use Prim.Native.Nat.{◌-◌}
 use Rattle.runs.proofs.Growing.{mine}
 use Rattle.runs.proofs.writing.copy.Goals as goal
 

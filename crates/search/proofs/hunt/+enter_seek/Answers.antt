@@ -1,4 +1,3 @@
-use Prim.Native.Nat.{◌-◌}
 use mathlib.Core.Path.{ap, refl, ◌∙◌}
 use Rattle.meaning.specs.Equality.{rep_at}
 use Rattle.meaning.specs.Columns.{rows_from, patterns_from, literals_from, context_from}

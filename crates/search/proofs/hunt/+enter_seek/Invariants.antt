@@ -1,17 +1,13 @@
 -- `search::hunt::enter` and `search::hunt::seek` meet their contracts. They call each other. The measure is twice the number of variables that are left to choose, and for
 -- `enter` one more. The invariant: what was tried so far is no breach, and what is known of pairs is right.
 -- Assumes nothing.
-use Prim.Native.Nat.{◌+◌, ◌-◌, ◌*◌, ℕ, ◌<◌}
-use mathlib.Core.Path.{ap, refl, ◌∙◌}
-use borrow.Author.Tests.{not-true, not-false}
+use Prim.Native.Nat.{◌+◌, ◌-◌, ◌*◌, ◌<◌}
 use Rattle.meaning.specs.Equality.{rep_at}
 use Rattle.meaning.specs.Columns.{rows_from, patterns_from, literals_from, context_from}
 use Rattle.meaning.specs.Following.{differ_by}
 use Rattle.differing.specs.Knowing.{Knows}
-use Rattle.search.specs.Hunting.{stage_of, dead_of, rows_of, attempt_of, hunt_of, answer_of}
-use Rattle.search.proofs.Hunting.{Trying, trying_start, trying-found, trying-next, trying-done, enter-dead, enter-live, planned-listed, planned-rises, chosen-next, hunt-leaf, attempt-enter}
-use borrow.Author.Rules.{rules}
-use native.Mathlib.Omega.{arith}
+use Rattle.search.specs.Hunting.{stage_of, dead_of, rows_of, attempt_of, hunt_of}
+use Rattle.search.proofs.Hunting.{Trying}
 use Rattle.search.proofs.hunt.+enter_seek.Given as goal
 
 abbrev pub decreases-enter : goal.decreases-enter

@@ -1,4 +1,3 @@
-use Prim.Native.Nat.{◌-◌}
 use native.Mathlib.Omega.{arith}
 use Rattle.search.proofs.Hunting.{begins-start, begins-next, begins-other, begins-done}
 use borrow.Author.Rules.{rules}

@@ -1,4 +1,3 @@
-use Prim.Native.Nat.{◌-◌}
 use Rattle.meaning.specs.Equality.{rep_at}
 use Rattle.search.proofs.Hunting.{own-start, own-found, own-next, own-none}
 use borrow.Author.Rules.{rules}

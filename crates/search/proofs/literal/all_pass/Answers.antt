@@ -1,5 +1,3 @@
-use Prim.Native.Nat.{◌-◌}
-use mathlib.Core.Bool.{true}
 use mathlib.Core.Path.{sym, ◌∙◌}
 use Rattle.meaning.specs.Pruning.{due}
 use Rattle.columns.proofs.Deciding.{every-none, every_more}

@@ -1,4 +1,3 @@
-use Prim.Native.Nat.{◌-◌}
 use Rattle.search_pairs.proofs.Back.{mine}
 use Rattle.search_pairs.proofs.follow.own_labels.Goals as goal
 

@@ -1,4 +1,3 @@
-use Prim.Native.Nat.{◌-◌}
 use Rattle.search_pairs.proofs.Joining.{mine}
 use Rattle.search_pairs.proofs.labels.clashing.Goals as goal
 

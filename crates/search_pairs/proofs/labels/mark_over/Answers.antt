@@ -1,6 +1,5 @@
 use mathlib.Core.Path.{refl}
 use borrow.Author.Rules.{rules}
-use Prim.Native.Nat.{◌-◌}
 use Rattle.search_pairs.proofs.Joining.{marking-room, marking_step, mine}
 use Rattle.search_pairs.proofs.labels.mark_over.Goals as goal
 

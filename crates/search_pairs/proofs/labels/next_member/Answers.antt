@@ -1,4 +1,3 @@
-use Prim.Native.Nat.{◌-◌}
 use Rattle.search_pairs.proofs.Members.{seeking-found, mine}
 use Rattle.search_pairs.proofs.labels.next_member.Goals as goal
 

@@ -1,5 +1,4 @@
 use borrow.Author.Rules.{rules}
-use Prim.Native.Nat.{◌-◌}
 use Rattle.search_pairs.proofs.Joining.{relabelling-space, mine}
 use Rattle.search_pairs.proofs.labels.relabel.Goals as goal
 

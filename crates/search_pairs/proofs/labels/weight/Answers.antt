@@ -1,4 +1,3 @@
-use Prim.Native.Nat.{◌-◌}
 use Rattle.search_pairs.proofs.Joining.{joins}
 use Rattle.search_pairs.proofs.labels.weight.Goals as goal
 

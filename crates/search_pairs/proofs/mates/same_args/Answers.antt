@@ -1,4 +1,3 @@
-use Prim.Native.Nat.{◌-◌}
 use Rattle.search_pairs.proofs.Rows.{agreeing-next, mine}
 use Rattle.search_pairs.proofs.mates.same_args.Goals as goal
 

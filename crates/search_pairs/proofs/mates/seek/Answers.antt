@@ -1,4 +1,3 @@
-use Prim.Native.Nat.{◌-◌}
 use Rattle.search_pairs.proofs.Seeking.{mine}
 use Rattle.search_pairs.proofs.mates.seek.Goals as goal
 

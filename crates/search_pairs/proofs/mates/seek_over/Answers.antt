@@ -1,5 +1,4 @@
 use borrow.Author.Rules.{rules}
-use Prim.Native.Nat.{◌-◌}
 use Rattle.search_pairs.proofs.Seeking.{seek-room, mine}
 use Rattle.search_pairs.proofs.mates.seek_over.Goals as goal
 

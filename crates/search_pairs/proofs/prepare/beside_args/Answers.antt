@@ -1,4 +1,3 @@
-use Prim.Native.Nat.{◌-◌}
 use borrow.Author.Rules.{rules}
 use Rattle.search_pairs.proofs.Preparing.{two-arg-other, mine}
 use Rattle.search_pairs.proofs.prepare.beside_args.Goals as goal

@@ -1,4 +1,3 @@
-use Prim.Native.Nat.{◌-◌}
 use Rattle.search_pairs.proofs.Preparing.{mine}
 use Rattle.search_pairs.proofs.prepare.place_rows.Goals as goal
 

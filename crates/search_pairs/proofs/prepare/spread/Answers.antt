@@ -1,4 +1,3 @@
-use Prim.Native.Nat.{◌-◌}
 use Rattle.search_pairs.proofs.Living.{mine}
 use Rattle.search_pairs.proofs.prepare.spread.Goals as goal
 

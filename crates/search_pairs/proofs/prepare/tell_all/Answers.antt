@@ -1,4 +1,3 @@
-use Prim.Native.Nat.{◌-◌}
 use Rattle.search_pairs.proofs.Preparing.{mine}
 use Rattle.search_pairs.proofs.prepare.tell_all.Goals as goal
 

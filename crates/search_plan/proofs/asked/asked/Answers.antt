@@ -1,4 +1,3 @@
-use Prim.Native.Nat.{◌-◌}
 use Rattle.search_plan.proofs.Literals.{mine}
 use Rattle.search_plan.proofs.asked.asked.Goals as goal
 

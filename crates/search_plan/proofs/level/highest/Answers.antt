@@ -1,4 +1,3 @@
-use Prim.Native.Nat.{◌-◌}
 use Rattle.search_plan.proofs.Args.{mine}
 use Rattle.search_plan.proofs.level.highest.Goals as goal
 

@@ -1,4 +1,3 @@
-use Prim.Native.Nat.{◌-◌}
 use Rattle.search_plan.proofs.Growing.{mine}
 use Rattle.search_plan.proofs.level.variables.Goals as goal
 

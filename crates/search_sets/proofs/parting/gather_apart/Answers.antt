@@ -1,4 +1,3 @@
-use Prim.Native.Nat.{◌-◌}
 use Rattle.search_sets.proofs.Parts.{mine}
 use Rattle.search_sets.proofs.parting.gather_apart.Goals as goal
 

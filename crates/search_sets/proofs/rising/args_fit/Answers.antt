@@ -1,4 +1,3 @@
-use Prim.Native.Nat.{◌-◌}
 use Rattle.search_sets.proofs.Symbols.{mine}
 use Rattle.search_sets.proofs.rising.args_fit.Goals as goal
 

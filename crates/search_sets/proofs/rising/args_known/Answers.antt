@@ -1,4 +1,3 @@
-use Prim.Native.Nat.{◌-◌}
 use Rattle.search_sets.proofs.Arguments.{mine}
 use Rattle.search_sets.proofs.rising.args_known.Goals as goal
 

@@ -1,4 +1,3 @@
-use Prim.Native.Nat.{◌-◌}
 use Rattle.search_sets.proofs.Gathering.{mine}
 use Rattle.search_sets.proofs.rising.gather.Goals as goal
 

@@ -1,4 +1,3 @@
-use Prim.Native.Nat.{◌-◌}
 use Rattle.search_sets.proofs.Seeing.{mine}
 use Rattle.search_sets.proofs.sinking.add_args.Goals as goal
 

@@ -1,4 +1,3 @@
-use Prim.Native.Nat.{◌-◌}
 use Rattle.search_sets.proofs.Sunk.{mine}
 use Rattle.search_sets.proofs.sinking.cut_args.Goals as goal
 

@@ -1,4 +1,3 @@
-use Prim.Native.Nat.{◌-◌}
 use Rattle.search_sets.proofs.Seeing.{mine}
 use Rattle.search_sets.proofs.sinking.see.Goals as goal
 

@@ -1,4 +1,3 @@
-use Prim.Native.Nat.{◌-◌}
 use Rattle.search_sets.proofs.Writing.{mine}
 use Rattle.search_sets.proofs.words.copy.Goals as goal
 

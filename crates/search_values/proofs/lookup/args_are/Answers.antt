@@ -1,4 +1,3 @@
-use Prim.Native.Nat.{◌-◌}
 use Rattle.search_values.proofs.Comparing.{matching-next, mine}
 use Rattle.search_values.proofs.lookup.args_are.Goals as goal
 

@@ -1,4 +1,3 @@
-use Prim.Native.Nat.{◌-◌}
 use Rattle.search_values.proofs.Places.{mine}
 use Rattle.search_values.proofs.lookup.first_of.Goals as goal
 

@@ -1,4 +1,3 @@
-use Prim.Native.Nat.{◌-◌}
 use Rattle.search_values.proofs.Holding.{mine}
 use Rattle.search_values.proofs.lookup.held.Goals as goal
 

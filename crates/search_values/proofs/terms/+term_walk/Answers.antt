@@ -1,6 +1,6 @@
 use native.Mathlib.Omega.{arith}
 use borrow.Author.Rules.{rules}
-use Rattle.search_values.proofs.Walking.{term-given, term-look, term-walk, term-read, walk-place, walk-next, walk_more, mine}
+use Rattle.search_values.proofs.Walking.{term-given, term-look, term-walk, term-read, walk_more, mine}
 use Rattle.search_values.proofs.terms.+term_walk.Goals as goal
 
 pub term-returns-then-row-fresh : goal.term-returns-then-row-fresh

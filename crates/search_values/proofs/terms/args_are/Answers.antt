@@ -1,4 +1,3 @@
-use Prim.Native.Nat.{◌-◌}
 use Rattle.search_values.proofs.Meeting.{valuing-next, mine}
 use Rattle.search_values.proofs.terms.args_are.Goals as goal
 

@@ -1,4 +1,3 @@
-use Prim.Native.Nat.{◌-◌}
 use Rattle.search_values.proofs.Meeting.{meeting-next, mine}
 use Rattle.search_values.proofs.terms.met.Goals as goal
 

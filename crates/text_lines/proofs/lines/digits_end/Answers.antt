@@ -1,4 +1,3 @@
-use Prim.Native.Nat.{◌-◌}
 use Rattle.text_lines.proofs.Scan.{mine}
 use Rattle.text_lines.proofs.lines.digits_end.Goals as goal
 

@@ -1,4 +1,3 @@
-use Prim.Native.Nat.{◌-◌}
 use Rattle.text_reader.proofs.Agreeing.{mine}
 use Rattle.text_reader.proofs.agree.clashes.Goals as goal
 

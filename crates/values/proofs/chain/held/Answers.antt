@@ -1,4 +1,3 @@
-use Prim.Native.Nat.{◌-◌}
 use Rattle.meaning.specs.Equality.{rep_at}
 use Rattle.values.proofs.Chaining.{seeking-start, seeking-next, seeking-found, seeking-ends}
 use borrow.Author.Rules.{rules}

@@ -1,4 +1,3 @@
-use Prim.Native.Nat.{◌-◌}
 use mathlib.Core.Path.{sym, ◌∙◌}
 use Rattle.meaning.specs.Equality.{rep_at}
 use Rattle.values.proofs.Comparing.{symbol-other, symbol-same, over-lengths, over-start, over-next, over-differs, over_done}

@@ -1,4 +1,3 @@
-use Prim.Native.Nat.{◌-◌}
 use Rattle.meaning.specs.Equality.{rep_at}
 use Rattle.values.proofs.Reading.{term-list, term-variable, term-symbol, term-read, rule-few, rule-earlier, rule-long, walk_end, walk_more}
 use borrow.Author.Rules.{rules}

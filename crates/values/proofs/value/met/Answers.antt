@@ -1,4 +1,3 @@
-use Prim.Native.Nat.{◌-◌}
 use Rattle.values.proofs.Reading.{meeting-start, meeting-next, meeting-found, meeting-ends, pattern-row, rule-shaped}
 use borrow.Author.Rules.{rules}
 use native.Mathlib.Omega.{arith}

@@ -1,4 +1,3 @@
-use Prim.Native.Nat.{◌-◌}
 use mathlib.Core.Path.{refl, sym, ◌∙◌}
 use Rattle.meaning.specs.Values.{number_at}
 use Rattle.values.proofs.Reading.{shaped-lined, over-variable, over-symbol}

@@ -1,4 +1,3 @@
-use Prim.Native.Nat.{◌-◌}
 use mathlib.Core.Path.{refl, sym, ◌∙◌}
 use Rattle.meaning.specs.Equality.{rep_at}
 use Rattle.values.proofs.Reading.{read_next, read_done, listed-less}

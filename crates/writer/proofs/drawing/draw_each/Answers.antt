@@ -1,4 +1,3 @@
-use Prim.Native.Nat.{◌-◌}
 use Rattle.writer.proofs.Turning.{mine, next}
 use Rattle.writer.proofs.drawing.draw_each.Goals as goal
 

@@ -3,7 +3,7 @@
 use Prim.Native.Nat.{◌-◌, ◌≤◌}
 use Rattle.runs.specs.Limits.{most_literals}
 use Rattle.grounds_batches.specs.Sending.{out_of}
-use Rattle.writer.proofs.Turning.{Turning, next}
+use Rattle.writer.proofs.Turning.{Turning}
 use Rattle.writer.proofs.drawing.draw_each.Given as goal
 
 abbrev pub invariant-loop-j : goal.invariant-loop-j
