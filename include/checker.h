@@ -1,4 +1,4 @@
-/* The rule checker for programs in other languages: link target/staticlib/libboundary.a, which `rt staticlib boundary` makes.
+/* The rule checker for programs in other languages: link target/staticlib/libboundary.a, which `tools/product` makes.
  *
  * A text is any bytes of any length; nothing has to be tested beforehand. A reply is one number:
  *
