@@ -26,22 +26,22 @@ struct Given {
 }
 
 // Hands over what comes before the list.
-fn hand_head<'a>(input: &'a [u8], line: &'a [u8]) -> Sent
+fn hand_head<'a>(rt: &(impl Print + Eprint), input: &'a [u8], line: &'a [u8]) -> Sent
     requires { Heads input.now line.now }
     ensures { Carries line.now result }
 {
-    put(line)
+    put(rt, line)
 }
 
 // Hands over the lines from a state to the next.
-fn hand(l: Laid, state: State, next: State, bytes: &[u8]) -> Sent
+fn hand(rt: &(impl Print + Eprint), l: Laid, state: State, next: State, bytes: &[u8]) -> Sent
     requires { Runs (context_in l) l.table (rule_in l) piece_room state bytes.now next }
     ensures { Gives (context_in l) l.table (rule_in l) state result next }
 {
-    put(bytes)
+    put(rt, bytes)
 }
 
-fn piece(l: Laid, known: &mut [u8; PAIRS], state: State) -> Given
+fn piece(rt: &(impl Print + Eprint), l: Laid, known: &mut [u8; PAIRS], state: State) -> Given
     requires { Lent l known.old }
     ensures gives { Gives (context_in l) l.table (rule_in l) state result.sent result.next }
     ensures lent { Lent l known.new }
@@ -50,19 +50,19 @@ fn piece(l: Laid, known: &mut [u8; PAIRS], state: State) -> Given
     let filled = listing::fill(l, known, state, &mut space);
     let used = filled.used;
     let next = filled.next;
-    let sent = hand(l, state, next, &space[..used]);
+    let sent = hand(rt, l, state, next, &space[..used]);
     Given { sent, next }
 }
 
 // Hands over the list from a state on, piece by piece, as long as each is taken.
-fn list(l: Laid, known: &mut [u8; PAIRS], from: State) -> Sent
+fn list(rt: &(impl Print + Eprint), l: Laid, known: &mut [u8; PAIRS], from: State) -> Sent
     requires { Lent l known.old }
     ensures { Delivers (ListedFrom (context_in l) l.table (rule_in l) from) result }
 {
     let mut sent = nothing();
     let mut state = from;
     while !listing::is_done(state) {
-        let given = piece(l, known, state);
+        let given = piece(rt, l, known, state);
         let more = given.sent;
         sent = both(sent, more);
         if !is_whole(sent) {
@@ -74,7 +74,7 @@ fn list(l: Laid, known: &mut [u8; PAIRS], from: State) -> Sent
     sent
 }
 
-fn answer(got: Got, input: &[u8]) -> Sent
+fn answer(rt: &(impl Print + Eprint), got: Got, input: &[u8]) -> Sent
     requires { Read got input.now }
     ensures { Delivers (BreachesPrints narrow input.now) result }
 {
@@ -82,22 +82,22 @@ fn answer(got: Got, input: &[u8]) -> Sent
     let line = opened.line;
     let bytes = line.bytes;
     let len = line.len;
-    let head = hand_head(input, &bytes[..len]);
+    let head = hand_head(rt, input, &bytes[..len]);
     if !is_whole(head) {
         return head;
     }
     let laid = opened.laid;
     let state = opened.state;
     let mut known = unknown();
-    let rest = list(laid, &mut known, state);
+    let rest = list(rt, laid, &mut known, state);
     both(head, rest)
 }
 
-fn main() {
+fn main(rt: HostRuntime) {
     let mut input = input_space();
-    let got = take_input(&mut input);
+    let got = take_input(&rt, &mut input);
     match got {
-        Got::Bytes(n) => report(answer(got, &input[..n])),
-        Got::Failed => tell(FAILED),
+        Got::Bytes(n) => report(&rt, answer(&rt, got, &input[..n])),
+        Got::Failed => tell(&rt, FAILED),
     }
 }

@@ -2,13 +2,12 @@
 --     failing-again, failing-left, failing-failed    what is behind an answer below 0
 --     moved-failing, moved-end, moved-bytes          an answer below 0, 0, or above
 --     moved-cast                                     an answer that is not below 0, by its bits
---     moves-within, moves-part                       bytes that were moved are at least one, and no more than there were, in a part too
---     mine                                           what the functions of `moves`, `read_on` and `write_on` leave to show
+--     moves-counted, moves-none, moves-part          bytes that were moved are at least one, and no more than there were, in a part too
+--     mine                                           what the functions of `moves` leave to show
 -- Assumes nothing.
-use Rattle.std.proofs.Common.{◌≡◌, ℕ, zero, suc, ◌-◌, ◌^◌, Bool, true, false, T, eqb, ltb, List, length, take, drop, ℤ, pos, negsuc, nat_abs, sym, refl, ap, ◌∙◌, subst, arith, length-drop, take_all, to_z-of_z, w32, w64, Fits, SFits, to_z, of_z, rules, ltb-true, eq-eqb, ne_eqb}
+use Rattle.std.proofs.Common.{◌≡◌, ℕ, zero, suc, ◌-◌, ◌^◌, Bool, true, false, T, eqb, ltb, List, length, take, drop, ℤ, pos, negsuc, nat_abs, sym, refl, ap, ◌∙◌, subst, arith, length-drop, take_all, to_z-of_z, w32, w64, Fits, SFits, to_z, of_z, rules, ltb-true, eq-eqb, ne_eqb, ◌≤◌}
 use lib.Signed.{lt_z, non_neg}
 use mir.Val.{sel}
-use Rattle.libc.specs.Io.{Moved}
 use Rattle.channels.specs.declared.moves.Move.{Move}
 use Rattle.channels.specs.declared.moves.Move.TheVariants.{Bytes, End, Again, Left, Failed}
 use Rattle.channels.specs.Moves.{failing, move_of, Moves}
@@ -74,23 +73,27 @@ failing-none (pos k) n e = go (eqb k 4) (eqb k 32) e
     go false false e = let z : ◌≡◌ {A = ℕ} 0 1 = cc in omega arith
 failing-none (negsuc k) n e = let z : ◌≡◌ {A = ℕ} 0 1 = cc in omega arith
 
-pub moves-within : (got error : ℤ) (m : Move) (most : ℕ) → m ≡ move_of got error → Moved most got → Moves m most
+-- an answer that is a count, and an answer below 0
+pub moves-counted : (n : ℕ) (error : ℤ) (m : Move) (most : ℕ) → m ≡ move_of (pos n) error → n ≤ most → Moves m most
 unfolding move_of
-moves-within (pos zero) error m most e h =
+moves-counted zero error m most e h =
     record {
       some = λ n q. absurd (let z : ◌≡◌ {A = ℕ} 0 1 = cc in omega arith);
       few = λ n q. absurd (let z : ◌≡◌ {A = ℕ} 0 1 = cc in omega arith);
     }
-moves-within (pos (suc k)) error m most e h =
+moves-counted (suc k) error m most e h =
     record {
       some = λ n q. let z : n ≡ suc k = cc in omega arith;
       few = λ n q. let z : n ≡ suc k = cc in omega arith;
     }
-moves-within (negsuc k) error m most e h =
+
+pub moves-none : (k : ℕ) (error : ℤ) (m : Move) (most : ℕ) → m ≡ move_of (negsuc k) error → Moves m most
+unfolding move_of
+moves-none k error m most e =
     record { some = λ n q. absurd (failing-none error n (sym e ∙ q)); few = λ n q. absurd (failing-none error n (sym e ∙ q)) }
 
 -- what was moved of a part from some place to the end
 pub moves-part : (m : Move) (l : List ℕ) (done : ℕ) → Moves m (length (take (length l - done) (drop done l))) → Moves m (length l - done)
 moves-part m l done h = subst (Moves m) (ap length (take_all (length l - done) (drop done l) (omega (arith, length-drop done l))) ∙ length-drop done l) h
 
-pub ruleset mine = (rules, failing-again, failing-left, failing-failed, moved-failing, moved-end, moved-cast, moved-bytes, moves-within, moves-part)
+pub ruleset mine = (rules, failing-again, failing-left, failing-failed, moved-failing, moved-end, moved-bytes, moves-counted, moves-none)

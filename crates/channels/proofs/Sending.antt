@@ -115,4 +115,4 @@ delivers-after P Q x a b r c d f e =
 pub delivers-none : (Prints : List ℕ → Type 0) (s : Sent) → whole_by s.fate ≡ false → Delivers Prints s
 delivers-none Prints s h = record { whole = λ e. absurd (let z : true ≡ false = sym (ap whole_by e) ∙ h in let y : ◌≡◌ {A = ℕ} 0 1 = cc in omega arith) }
 
-pub ruleset mine = (rules, sending-start, sending-whole, sending-fits, sending-next, sending-less, sends-stopped, sends-failed, both-whole, both_left, both-failed)
+pub ruleset mine = (rules, both-whole, both_left, both-failed)

@@ -4,4 +4,5 @@
 pub mod input;
 mod moves;
 pub mod output;
+mod saying;
 pub mod telling;

@@ -1,6 +1,17 @@
-// What one call of the C library's read or write moved.
-ghost use Rattle.std.specs.Prelude.{◌≡◌, length};
+// What one call of a reader's read or of a writer's write moved.
+ghost use Rattle.std.specs.Prelude.{◌≡◌, ◌≢◌, length, None, IfSome};
+ghost use Rattle.std.specs.IoError.{error_kind, raw_os_error};
 ghost use Rattle.channels.specs.Moves.{failing, move_of, Moves};
+
+use std::io;
+use std::io::{ErrorKind, Read, Write};
+
+// The system's numbers of a signal that came, of a reader that left, and of a failure.
+const EINTR: i32 = 4;
+
+const EPIPE: i32 = 32;
+
+const EIO: i32 = 5;
 
 // So many bytes; none; none, since a signal came or since nobody reads any more; or a failure.
 #[derive(Clone, Copy)]
@@ -16,10 +27,10 @@ pub enum Move {
 fn behind(error: i32) -> Move
     ensures { result ≡ failing error }
 {
-    if error == libc::EINTR {
+    if error == EINTR {
         return Move::Again;
     }
-    if error == libc::EPIPE {
+    if error == EPIPE {
         return Move::Left;
     }
     Move::Failed
@@ -38,20 +49,46 @@ fn meant(got: isize, error: i32) -> Move
     Move::Bytes(got as usize)
 }
 
+// The number of an error: the system's, or the one that its kind stands for.
+#[tactic(auto, unfolding(crate::specs::Moves::failing))]
+pub(crate) fn number_of(e: &io::Error) -> i32
+    ensures system { IfSome (raw_os_error e.now) (λ n. result ≡ n) }
+    ensures interrupted { raw_os_error e.now ≡ None → error_kind e.now ≡ ErrorKind.Interrupted → failing result ≡ Move.Again }
+    ensures broken_pipe { raw_os_error e.now ≡ None → error_kind e.now ≡ ErrorKind.BrokenPipe → failing result ≡ Move.Left }
+    ensures other { raw_os_error e.now ≡ None → error_kind e.now ≢ ErrorKind.Interrupted → error_kind e.now ≢ ErrorKind.BrokenPipe → failing result ≡ Move.Failed }
+{
+    if let Some(number) = e.raw_os_error() {
+        return number;
+    }
+    match e.kind() {
+        ErrorKind::Interrupted => EINTR,
+        ErrorKind::BrokenPipe => EPIPE,
+        _ => EIO,
+    }
+}
+
 // Reads once.
-pub(crate) fn read_once(fd: i32, space: &mut [u8]) -> Move
+pub(crate) fn read_once<R: Read>(reader: &mut R, space: &mut [u8], error: &mut i32) -> Move
     ensures { Moves result (length space.old) }
 {
-    let got = libc::read(fd, space);
-    let error = os::errno();
-    meant(got, error)
+    match reader.read(space) {
+        Ok(n) => meant(n as isize, 0),
+        Err(e) => {
+            *error = number_of(&e);
+            meant(-1, *error)
+        }
+    }
 }
 
 // Writes once.
-pub(crate) fn write_once(fd: i32, bytes: &[u8]) -> Move
+pub(crate) fn write_once<W: Write>(writer: &mut W, bytes: &[u8], error: &mut i32) -> Move
     ensures { Moves result (length bytes.now) }
 {
-    let got = libc::write(fd, bytes);
-    let error = os::errno();
-    meant(got, error)
+    match writer.write(bytes) {
+        Ok(n) => meant(n as isize, 0),
+        Err(e) => {
+            *error = number_of(&e);
+            meant(-1, *error)
+        }
+    }
 }

@@ -4,6 +4,9 @@ ghost use Rattle.channels.specs.Moves.{Moves};
 ghost use Rattle.channels.specs.Sending.{stop_of, Carries, none_sent, both_of, whole_by};
 
 use crate::moves::{Move, write_once};
+use crate::saying::say_failure;
+use std::io;
+use std::io::Write;
 
 // Every byte was taken; nobody reads any more; or it failed, which was said on standard error.
 #[derive(Clone, Copy)]
@@ -72,21 +75,22 @@ fn stopped(moved: Move) -> Fate
 }
 
 // Writes once, of the bytes that are left.
-fn write_on(fd: i32, bytes: &[u8], done: usize) -> Move
+fn write_on<W: Write>(writer: &mut W, bytes: &[u8], done: usize, error: &mut i32) -> Move
     requires { done ≤ length bytes.now }
     ensures { Moves result (length bytes.now - done) }
 {
-    write_once(fd, &bytes[done..])
+    write_once(writer, &bytes[done..], error)
 }
 
-// Writes until every byte is taken. A write that a signal interrupted is tried again, as a read is; one that takes nothing has failed.
-pub(crate) fn send(fd: i32, bytes: &[u8]) -> Sent
+// Writes until every byte is taken. A write that a signal interrupted is tried again, as a read is; one that takes nothing has failed. The number
+// of the last error is kept.
+pub(crate) fn send<W: Write>(writer: &mut W, bytes: &[u8], error: &mut i32) -> Sent
     ensures { Carries bytes.now result }
 {
     let mut done = 0;
     let mut tries = usize::MAX;
     while done < bytes.len() {
-        let moved = write_on(fd, bytes, done);
+        let moved = write_on(writer, bytes, done, error);
         match moved {
             Move::Bytes(n) => done += n,
             Move::Again => {
@@ -111,13 +115,15 @@ pub(crate) fn send(fd: i32, bytes: &[u8]) -> Sent
 }
 
 // Hands bytes over to standard output.
-pub fn put(bytes: &[u8]) -> Sent
+pub fn put(rt: &(impl Print + Eprint), bytes: &[u8]) -> Sent
     ensures carries { Carries bytes.now result }
 {
-    let sent = send(libc::STDOUT_FILENO, bytes);
+    let mut writer = io::writer(rt);
+    let mut error = 0;
+    let sent = send(&mut writer, bytes, &mut error);
     let fate = sent.fate;
     if let Fate::Failed = fate {
-        os::fail(b"standard output");
+        say_failure(rt, "standard output", error);
     }
     sent
 }

@@ -3,6 +3,9 @@ ghost use Rattle.std.specs.Prelude.{◌≡◌};
 ghost use Rattle.channels.specs.Telling.{place_of, status_of};
 
 use crate::output::{Fate, Sent, send};
+use std::fs;
+use std::fs::OpenOptions;
+use std::rt::{Env, Files};
 
 // A descriptor, or none.
 #[derive(Clone, Copy)]
@@ -30,16 +33,55 @@ fn named(digit: u8) -> Place
     Place::At((digit - b'0') as i32)
 }
 
+// The file that a descriptor from 3 to 9 is, by its name in the system.
+fn path_of(fd: i32) -> Option<&'static str> {
+    match fd {
+        3 => Some("/proc/self/fd/3"),
+        4 => Some("/proc/self/fd/4"),
+        5 => Some("/proc/self/fd/5"),
+        6 => Some("/proc/self/fd/6"),
+        7 => Some("/proc/self/fd/7"),
+        8 => Some("/proc/self/fd/8"),
+        9 => Some("/proc/self/fd/9"),
+        _ => None,
+    }
+}
+
+// Whether a descriptor that is known by its name in the system was opened for reading alone.
+fn is_read_only(rt: &impl Files, path: &str) -> bool {
+    match fs::symlink_metadata(rt, path) {
+        Ok(it) => it.permissions().readonly(),
+        Err(_) => true,
+    }
+}
+
+// Says a status on a descriptor, which is opened anew, to write behind what is there. It is opened for reading too, since a pipe with a name that
+// nobody reads would else be waited for; one that was opened for reading alone is left as it is. Where it cannot be opened, nothing is said.
+fn tell_on(rt: &impl Files, fd: i32, status: u8) {
+    let Some(path) = path_of(fd) else {
+        return;
+    };
+    if is_read_only(rt, path) {
+        return;
+    }
+    if let Ok(mut file) = OpenOptions::new().read(true).append(true).open(rt, path) {
+        let mut error = 0;
+        send(&mut file, &[status], &mut error);
+    }
+}
+
 // Says a status.
-pub fn tell(status: u8) {
+pub fn tell(rt: &(impl Env + Files), status: u8) {
     let mut word = [0u8; 1];
-    let n = os::arg(1, &mut word);
+    let Ok(n) = rt.arg(1, &mut word) else {
+        return;
+    };
     if n != 1 {
         return;
     }
     let place = named(word[0]);
     if let Place::At(fd) = place {
-        send(fd, &[status]);
+        tell_on(rt, fd, status);
     }
 }
 
@@ -55,6 +97,6 @@ fn status(s: Sent) -> u8
 }
 
 // Says what became of the reply.
-pub fn report(s: Sent) {
-    tell(status(s));
+pub fn report(rt: &(impl Env + Files), s: Sent) {
+    tell(rt, status(s));
 }

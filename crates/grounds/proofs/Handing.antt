@@ -134,4 +134,4 @@ room-there words = omega (arith, length-replicate {A = List ℕ} most_steps word
 pub ruleset mine = (rules, first_count, takes-within, takes-read, opened-ready, line-fits, piece-fits, piece-comes, listed_start, listed_next, turn-less, room-there)
 
 -- the ways out
-pub ruleset ways = (line-finds, head-whole, head-left, listed-left, listed-done)
+pub ruleset ways = (line-finds, head-whole, listed-done)

@@ -27,15 +27,16 @@ struct Given {
 }
 
 // Hands over the line of an input.
-fn hand_line<'a>(input: &'a [u8], line: &'a [u8]) -> Sent
+fn hand_line<'a>(rt: &(impl Print + Eprint), input: &'a [u8], line: &'a [u8]) -> Sent
     requires { FindPrints narrow input.now line.now }
     ensures { Carries line.now result }
 {
-    put(line)
+    put(rt, line)
 }
 
 // Hands over the lines of the items from one to before the next.
 fn hand(
+    rt: &(impl Print + Eprint),
     steps: &[[u64; WORDS]],
     many: usize,
     d: Conclusions,
@@ -47,29 +48,42 @@ fn hand(
     requires { Comes steps.now many d literals from next bytes.now }
     ensures { Gives steps.now many d literals from next result }
 {
-    put(bytes)
+    put(rt, bytes)
 }
 
-fn piece(steps: &[[u64; WORDS]], many: usize, d: Conclusions, literals: usize, from: usize) -> Given
+fn piece(
+    rt: &(impl Print + Eprint),
+    steps: &[[u64; WORDS]],
+    many: usize,
+    d: Conclusions,
+    literals: usize,
+    from: usize,
+) -> Given
     ensures { Gives steps.now many d literals from result.next result.sent }
 {
     let mut space = [0u8; PIECE];
     let filled = grounds_lines::fill(steps, many, d, literals, from, &mut space);
     let used = filled.used;
     let next = filled.next;
-    let sent = hand(steps, many, d, literals, from, next, &space[..used]);
+    let sent = hand(rt, steps, many, d, literals, from, next, &space[..used]);
     Given { sent, next }
 }
 
 // Hands over all lines, piece by piece, as long as each is taken.
-fn list(steps: &[[u64; WORDS]], many: usize, d: Conclusions, literals: usize) -> Sent
+fn list(
+    rt: &(impl Print + Eprint),
+    steps: &[[u64; WORDS]],
+    many: usize,
+    d: Conclusions,
+    literals: usize,
+) -> Sent
     ensures { Lists steps.now many d literals result }
 {
     let end = grounds_lines::items(steps, many, literals);
     let mut sent = nothing();
     let mut at = 0;
     while at < end {
-        let given = piece(steps, many, d, literals, at);
+        let given = piece(rt, steps, many, d, literals, at);
         let more = given.sent;
         sent = both(sent, more);
         if !is_whole(sent) {
@@ -81,37 +95,37 @@ fn list(steps: &[[u64; WORDS]], many: usize, d: Conclusions, literals: usize) ->
 }
 
 // Hands over the line and the lines of the grounds.
-fn deliver(input: &[u8], opened: Opened, steps: &[[u64; WORDS]]) -> Sent
+fn deliver(rt: &(impl Print + Eprint), input: &[u8], opened: Opened, steps: &[[u64; WORDS]]) -> Sent
     requires { Ready input.now opened steps.now }
     ensures { Delivers (GroundsPrints input.now) result }
 {
     let line = opened.line;
     let bytes = line.bytes;
     let len = line.len;
-    let head = hand_line(input, &bytes[..len]);
+    let head = hand_line(rt, input, &bytes[..len]);
     if !is_whole(head) {
         return head;
     }
     let d = opened.conclusions;
-    let rest = list(steps, opened.steps, d, opened.literals);
+    let rest = list(rt, steps, opened.steps, d, opened.literals);
     both(head, rest)
 }
 
-fn answer(got: Got, input: &[u8], steps: &mut [[u64; WORDS]]) -> Sent
+fn answer(rt: &(impl Print + Eprint), got: Got, input: &[u8], steps: &mut [[u64; WORDS]]) -> Sent
     requires read { Read got input.now }
     requires most_steps_in_bounds { most_steps ≤ length steps.old }
     ensures { Delivers (GroundsPrints input.now) result }
 {
     let opened = open(input, steps);
-    deliver(input, opened, steps)
+    deliver(rt, input, opened, steps)
 }
 
-fn main() {
+fn main(rt: HostRuntime) {
     let mut input = input_space();
-    let got = take_input(&mut input);
+    let got = take_input(&rt, &mut input);
     let mut steps = [[0u64; WORDS]; STEPS];
     match got {
-        Got::Bytes(n) => report(answer(got, &input[..n], &mut steps)),
-        Got::Failed => tell(FAILED),
+        Got::Bytes(n) => report(&rt, answer(&rt, got, &input[..n], &mut steps)),
+        Got::Failed => tell(&rt, FAILED),
     }
 }

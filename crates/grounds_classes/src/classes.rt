@@ -2,7 +2,7 @@
 ghost use Rattle.std.specs.Prelude.{◌≡◌, ◌≤◌, ◌<◌, set};
 ghost use Rattle.grounds_numbers.specs.Limits.{most_numbers};
 ghost use Rattle.grounds_laws.specs.Draft.{Wrote};
-ghost use Rattle.grounds_laws.specs.Classes.{label_in, why_in, labelled, state_of, own_step, same as sameBy, bridge as bridgeBy, Hit, size_in, carry as carryBy, carried, moved, joined};
+ghost use Rattle.grounds_laws.specs.Classes.{label_in, why_in, labelled, state_of, own_step, same as same_by, bridge as bridge_by, Hit, size_in, carry as carry_by, carried, moved, joined};
 
 use super::draft::{linked, turned};
 use casts::usize_of_u16;
@@ -52,7 +52,7 @@ fn own(x: u16) -> u16
 
 // The number of x = y, where the two have one label.
 pub fn same(cells: &mut [u16], table: &[u16], x: u16, y: u16) -> u16
-    ensures { Wrote cells.new result (sameBy cells.old table.now x y) }
+    ensures { Wrote cells.new result (same_by cells.old table.now x y) }
 {
     if x == y {
         return own(x);
@@ -63,7 +63,7 @@ pub fn same(cells: &mut [u16], table: &[u16], x: u16, y: u16) -> u16
 
 // The number of a step for the labels of x and y, where step s is x = y.
 fn bridge(cells: &mut [u16], table: &[u16], s: u16, x: u16, y: u16) -> u16
-    ensures { Wrote cells.new result (bridgeBy cells.old table.now s x y) }
+    ensures { Wrote cells.new result (bridge_by cells.old table.now s x y) }
 {
     let p = label(table, x);
     let back = turned(cells, why(table, x), x, p);
@@ -93,7 +93,7 @@ fn size(table: &[u16], p: u16, n: usize) -> usize
 
 // Entry z gets label q, where its label is p and step s is p = q.
 fn carry(cells: &mut [u16], table: &mut [u16], s: u16, p: u16, q: u16, z: u16)
-    ensures { state_of cells.new table.new ≡ carryBy s p q z (state_of cells.old table.old) }
+    ensures { state_of cells.new table.new ≡ carry_by s p q z (state_of cells.old table.old) }
 {
     if label(table, z) == p {
         let w = linked(cells, why(table, z), s, z, p, q);

@@ -7,7 +7,7 @@ ghost use Rattle.grounds_numbers.specs.Limits.{most_numbers};
 ghost use Rattle.grounds_numbers.specs.Pairs.{pair_count, pairs_in};
 ghost use Rattle.grounds_laws.specs.Draft.{Wrote};
 ghost use Rattle.grounds_laws.specs.Classes.{state_of};
-ghost use Rattle.grounds_laws.specs.Rounds.{start_one, started, pair_joined, state_one, stated, one_label, alike as alikeBy, argued, congruent_by, congruence as congruent};
+ghost use Rattle.grounds_laws.specs.Rounds.{start_one, started, pair_joined, state_one, stated, one_label, alike as alike_by, argued, congruent_by, congruence as congruent};
 ghost use Rattle.grounds_classes.specs.Settling.{Entered, one_argument, labels_of, united_by, apart_by, paired_by, row_passed_by, passed_by, Rests, rested_by};
 
 use super::classes::{join, label, put_label, same};
@@ -149,7 +149,7 @@ fn alike(keys: &[u16], table: &[u16], x: usize, y: usize) -> bool
     requires entered { Entered keys.now }
     requires x_bound { x < row_count keys.now }
     requires y_bound { y < row_count keys.now }
-    ensures { result ≡ alikeBy (rows_of keys.now) table.now x y }
+    ensures { result ≡ alike_by (rows_of keys.now) table.now x y }
 {
     if symbol_in(keys, x) != symbol_in(keys, y) {
         return false;

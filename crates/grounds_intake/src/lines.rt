@@ -1,7 +1,7 @@
 // A line of the grounds, byte by byte, and what it says once it ends.
 ghost use Rattle.std.specs.Prelude.{◌&&◌, ◌≡◌, ◌+◌, ◌≤◌, ◌<◌, ltb, set};
 ghost use Rattle.runs.specs.Limits.{most_variables};
-ghost use Rattle.grounds_intake.specs.Parsing.{byte_of, assigns as assignsBy, place_of, places_of, formed as formedBy, word_of};
+ghost use Rattle.grounds_intake.specs.Parsing.{byte_of, assigns as assigns_by, place_of, places_of, formed as formed_by, word_of};
 ghost use Rattle.grounds_intake.specs.Machine.{empty_line, open_line, pushed};
 
 use crate::bytes::{byte, eight};
@@ -67,7 +67,7 @@ pub(crate) fn push(l: Buffer, b: u8) -> Buffer
 
 // Whether a line is of a kind, by its form alone.
 pub(crate) fn formed(l: Buffer, kind: u64, size: usize) -> bool
-    ensures { result ≡ formedBy kind size l.good l.size l.values }
+    ensures { result ≡ formed_by kind size l.good l.size l.values }
 {
     if !l.good {
         return false;
@@ -91,7 +91,7 @@ pub(crate) fn word(l: Buffer, i: usize) -> u64
 
 // Whether a line gives a count of at most 4, and exactly that many rows.
 fn assigns(l: Buffer) -> bool
-    ensures { result ≡ assignsBy l.good l.size l.values }
+    ensures { result ≡ assigns_by l.good l.size l.values }
 {
     if !l.good {
         return false;

@@ -2,7 +2,7 @@
 ghost use Rattle.std.specs.Prelude.{◌≡◌, ◌<◌};
 ghost use Rattle.runs.specs.Limits.{most_literals};
 ghost use Rattle.grounds_intake.specs.Parsing.{byte_of, two_of, four_of};
-ghost use Rattle.grounds_intake.specs.Machine.{no_conclusions, put_conclusion, noted as notedBy};
+ghost use Rattle.grounds_intake.specs.Machine.{no_conclusions, put_conclusion, noted as noted_by};
 
 use crate::bytes::{byte, four, two};
 use crate::{Buffer, Noted};
@@ -57,7 +57,7 @@ fn put_conclusion(n: Noted, l: Buffer, i: usize) -> Noted
 }
 
 pub(crate) fn note(n: Noted, l: Buffer) -> Noted
-    ensures { result ≡ notedBy n l.values }
+    ensures { result ≡ noted_by n l.values }
 {
     let x = literal_in(l);
     if x == 0 {

@@ -1,6 +1,6 @@
 // The variables of a rule, and whether each has a context row.
 ghost use Rattle.std.specs.Prelude.{◌≡◌, ◌≤◌};
-ghost use Rattle.meaning.specs.Rules.{variables as variablesIn};
+ghost use Rattle.meaning.specs.Rules.{variables as variables_in};
 ghost use Rattle.meaning.specs.Checking.{assigned_by, Ends};
 ghost use Rattle.runs.specs.Runs.{patterns_of};
 ghost use Rattle.grounds_verdict.specs.Tests.{most_heads, reach};
@@ -23,7 +23,7 @@ fn reached(n: usize, kind: u16, head: u16) -> usize
 
 // The number of variables of the pattern rows.
 pub(crate) fn variables(patterns: &[u16]) -> usize
-    ensures { result ≡ variablesIn (patterns_of patterns.now) }
+    ensures { result ≡ variables_in (patterns_of patterns.now) }
 {
     let m = pattern_count(patterns);
     let mut n: usize = 0;

@@ -1,7 +1,7 @@
 -- A written context is read back as it was.
 --     holding              what is read of a context with no clause lines after it
 --     Bytewise, Writable   what limits and a context have to be like for its text to be read
---     read-back            reading goes through a context's text, and is then to hold that context
+--     read_back_lem            reading goes through a context's text, and is then to hold that context
 --     text-taken           a context's text is taken as that context
 --     read-writable        what a text is taken as can be written
 --     narrow-bytes         the limits of texts are so

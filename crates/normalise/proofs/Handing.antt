@@ -19,8 +19,7 @@ use Rattle.outputs.proofs.Outputs.{output-fits, output-prints}
 use Rattle.channels.specs.declared.output.Sent.{Sent}
 use Rattle.channels.specs.Sending.{both_of, whole_by, Carries, Delivers}
 use Rattle.channels.proofs.Sending.{carries-both, delivers-one, delivers-none}
-use Rattle.channels.proofs.Fronts.{front_fits, first_count}
-use Rattle.channels.proofs.Taking.{takes-within, takes-read}
+use Rattle.channels.proofs.Fronts.{front_fits}
 
 pub parts-both : (input text line : List ℕ) (a b r : Sent) → NormalisePrints narrow input (text ++ line) → Carries text a → Carries line b
     → r ≡ both_of a.fate a b → Delivers (NormalisePrints narrow input) r
@@ -46,4 +45,4 @@ module _ (input space : List ℕ) (r : Parts) (after : List ℕ) (p : PrintsNorm
   pub parts-print : space ≡ replicate normal_limit 0 → NormalisePrints narrow input (take r.text after ++ take r.line.len r.line.bytes)
   parts-print e = output-prints input space after r (omega (arith, ap length e, length-replicate {A = ℕ} normal_limit 0)) p
 
-pub ruleset mine = (rules, first_count, takes-within, takes-read, parts-both, parts_first, line-fits, text-fits, parts-print)
+pub ruleset mine = (rules, parts-both, parts-print)

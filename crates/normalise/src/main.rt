@@ -12,19 +12,19 @@ use channels::output::{Sent, both, is_whole, put};
 use channels::telling::{FAILED, report, tell};
 
 // Hands over what has to be printed for an input, in two parts.
-fn hand<'a>(input: &'a [u8], text: &'a [u8], line: &'a [u8]) -> Sent
+fn hand<'a>(rt: &(impl Print + Eprint), input: &'a [u8], text: &'a [u8], line: &'a [u8]) -> Sent
     requires { NormalisePrints narrow input.now (text.now ++ line.now) }
     ensures { Delivers (NormalisePrints narrow input.now) result }
 {
-    let first = put(text);
+    let first = put(rt, text);
     if !is_whole(first) {
         return first;
     }
-    let then = put(line);
+    let then = put(rt, line);
     both(first, then)
 }
 
-fn answer(got: Got, input: &[u8]) -> Sent
+fn answer(rt: &(impl Print + Eprint), got: Got, input: &[u8]) -> Sent
     requires { Read got input.now }
     ensures { Delivers (NormalisePrints narrow input.now) result }
 {
@@ -34,14 +34,14 @@ fn answer(got: Got, input: &[u8]) -> Sent
     let line = parts.line;
     let bytes = line.bytes;
     let len = line.len;
-    hand(input, &space[..text], &bytes[..len])
+    hand(rt, input, &space[..text], &bytes[..len])
 }
 
-fn main() {
+fn main(rt: HostRuntime) {
     let mut input = input_space();
-    let got = take_input(&mut input);
+    let got = take_input(&rt, &mut input);
     match got {
-        Got::Bytes(n) => report(answer(got, &input[..n])),
-        Got::Failed => tell(FAILED),
+        Got::Bytes(n) => report(&rt, answer(&rt, got, &input[..n])),
+        Got::Failed => tell(&rt, FAILED),
     }
 }

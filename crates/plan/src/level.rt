@@ -1,6 +1,6 @@
 // The level of each pattern row, and the number of variables.
 ghost use Rattle.std.specs.Prelude.{◌≡◌, ◌+◌, ◌<◌, get_or, replicate};
-ghost use Rattle.meaning.specs.Rules.{variables as variablesOf};
+ghost use Rattle.meaning.specs.Rules.{variables as variables_of};
 ghost use Rattle.meaning.specs.Columns.{args_at, pattern_of, patterns_from};
 ghost use Rattle.meaning.specs.Values.{highest, level_of, levels as levels_of};
 ghost use Rattle.plan.specs.Planning.{RuleFit, RowFit, ArgsFit, Levelled, reached_of};
@@ -98,7 +98,7 @@ pub(crate) fn variables<'a>(
     patterns: usize,
 ) -> u8
     requires { RuleFit shapes.now heads.now arities.now subs.now patterns }
-    ensures { result ≡ variablesOf (patterns_from shapes.now heads.now arities.now subs.now patterns) }
+    ensures { result ≡ variables_of (patterns_from shapes.now heads.now arities.now subs.now patterns) }
 {
     let mut most = 0;
     let mut i = 0;

@@ -3,16 +3,16 @@ ghost use Rattle.std.specs.Prelude.{◌||◌, ◌≡◌, ◌≤◌, ◌<◌, eqb
 ghost use Rattle.meaning.specs.Columns.{literal_of, literals_from, clause_from};
 ghost use Rattle.columns.specs.Fit.{NamedAt};
 ghost use Rattle.plan.specs.Planning.{RuleFit};
-ghost use Rattle.plan.specs.Reach.{idle as idleOf, free_by, self_unequal, never as neverOf};
+ghost use Rattle.plan.specs.Reach.{idle as idle_of, free_by, self_unequal, never as never_of};
 ghost use Rattle.plan.specs.Plans.{mark_of, Frees};
-ghost use Rattle.plan.specs.Marks.{reaches as reachesOf, none_reaches, Named};
+ghost use Rattle.plan.specs.Marks.{reaches as reaches_of, none_reaches, Named};
 
 use crate::mark::{digit, marks};
 use crate::size::wide;
 
 // Whether a literal is p = p.
 fn idle(sign: u8, p: u16, q: u16) -> bool
-    ensures { result ≡ idleOf (literal_of sign p q) }
+    ensures { result ≡ idle_of (literal_of sign p q) }
 {
     if sign != 6 {
         return false;
@@ -38,7 +38,7 @@ fn reaches<'a>(
     l: usize,
 ) -> bool
     requires { (l < 16) × NamedAt firsts.now seconds.now 64 l }
-    ensures { result ≡ reachesOf marks.now (literal_of (get_or signs.now l 0) (get_or firsts.now l 0) (get_or seconds.now l 0)) }
+    ensures { result ≡ reaches_of marks.now (literal_of (get_or signs.now l 0) (get_or firsts.now l 0) (get_or seconds.now l 0)) }
 {
     let p = firsts[l];
     let q = seconds[l];
@@ -133,7 +133,7 @@ pub(crate) fn never<'a>(
     literals: usize,
 ) -> bool
     requires { literals ≤ 16 }
-    ensures { result ≡ neverOf (literals_from signs.now firsts.now seconds.now literals) }
+    ensures { result ≡ never_of (literals_from signs.now firsts.now seconds.now literals) }
 {
     let mut l = 0;
     while l < literals {

@@ -1,56 +1,62 @@
 // Reads each file that an argument names, and says on a line what the reader answers.
 #![tactic(auto)]
 
-use libc::STDOUT_FILENO;
 use runs::limits::{LITERAL, PATTERN, ROW, SAID};
+use std::fs::File;
+use std::io::Read;
+use std::rt::Files;
+use std::{env, io};
 use text_runs::Answer;
 
-fn say(what: &[u8], n: u64) {
-    io::write_all(STDOUT_FILENO, what);
-    io::print_decimal(STDOUT_FILENO, n);
-}
+// No more bytes of a file are read.
+const MOST: u64 = 131072;
 
 // What the reader answers to one text.
-fn tell(text: &[u8]) {
+fn tell(rt: &impl Print, text: &[u8]) -> io::Result<()> {
     let r = text_reader::read(text);
     let answer = r.answer;
     let filled = r.filled;
     match answer {
         Answer::Refused(x) => {
-            say(b": refused ", x.number as u64);
-            say(b", line ", x.line as u64);
-            say(b", byte ", x.offset as u64);
+            println!(rt;
+                ": refused {}, line {}, byte {}",
+                x.number, x.line, x.offset
+            )
         }
         Answer::Taken => {
-            say(b": rows ", (filled.rows / ROW) as u64);
-            say(b", statements ", (filled.said / SAID) as u64);
-            say(b", pattern rows ", (filled.patterns / PATTERN) as u64);
-            say(b", literals ", (filled.literals / LITERAL) as u64);
+            let rows = filled.rows / ROW;
+            let statements = filled.said / SAID;
+            let patterns = filled.patterns / PATTERN;
+            let literals = filled.literals / LITERAL;
+            println!(rt;
+                ": rows {rows}, statements {statements}, pattern rows {patterns}, literals {literals}"
+            )
         }
     }
-    io::write_all(STDOUT_FILENO, b"\n");
 }
 
-fn one(i: usize) {
-    let mut path = io::buffer();
-    let m = os::arg(i, &mut path);
-    let fd = os::open_read(&path[..m]);
-    if fd < 0 {
-        os::fail(&path[..m]);
-        return;
-    }
-    let mut buf = [0; 131072];
-    let n = io::read_full(fd, &mut buf);
-    libc::close(fd);
-    io::write_all(STDOUT_FILENO, &path[..m]);
-    tell(&buf[..n]);
+fn text_of<R: Files + Alloc>(rt: &R, name: &str) -> io::Result<Vec<u8, R::A>> {
+    let mut text = Vec::new(rt.alloc());
+    let file = File::open(rt, name)?;
+    file.take(MOST).read_to_end(&mut text)?;
+    Ok(text)
 }
 
-fn main() {
-    let n = os::arg_count();
-    let mut i: usize = 1;
-    while i < n {
-        one(i);
-        i += 1;
+// A file that cannot be read is said on standard error.
+fn one(rt: &(impl Files + Alloc + Print + Eprint), name: &str) -> io::Result<()> {
+    match text_of(rt, name) {
+        Ok(text) => {
+            print!(rt; "{name}")?;
+            tell(rt, &text)
+        }
+        Err(e) => eprintln!(rt; "{name}: {e}"),
     }
+}
+
+fn main(rt: HostRuntime) -> io::Result<()> {
+    let names = env::args(&rt)?;
+    for name in names.skip(1) {
+        one(&rt, &name)?;
+    }
+    Ok(())
 }

@@ -1,6 +1,6 @@
 -- A small context and its sets, tested by computing.
 --     every, every-at                a test of each number below a bound
---     formedBy .. free_by             a context that is well-formed and does not contradict itself, and its table
+--     formed_by .. free_by             a context that is well-formed and does not contradict itself, and its table
 --     over_by, beside_by, liveBy, apart_is_by    its sets
 --     ready_by                       what passes is ready
 -- Assumes nothing.

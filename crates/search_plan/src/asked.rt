@@ -3,14 +3,14 @@ ghost use Rattle.std.specs.Prelude.{◌≡◌, ◌<◌, length};
 ghost use Rattle.meaning.specs.Columns.{literal_of};
 ghost use Rattle.runs.specs.Runs.{literal_count, literal_in, literals_of};
 ghost use Rattle.runs.specs.Fit.{Every, NamedAt};
-ghost use Rattle.search_plan.specs.Asked.{idle as idleOf, self_unequal, never as neverOf};
-ghost use Rattle.search_plan.specs.Sets.{sides as sidesOf, reached_by};
+ghost use Rattle.search_plan.specs.Asked.{idle as idle_of, self_unequal, never as never_of};
+ghost use Rattle.search_plan.specs.Sets.{sides as sides_of, reached_by};
 
 use runs::{left_in, literal_count, right_in, sign_in};
 
 // Whether a literal is p = p.
 fn idle(sign: u16, p: usize, q: usize) -> bool
-    ensures { result ≡ idleOf (literal_of sign p q) }
+    ensures { result ≡ idle_of (literal_of sign p q) }
 {
     if sign != 6 {
         return false;
@@ -22,7 +22,7 @@ fn idle(sign: u16, p: usize, q: usize) -> bool
 fn sides(literals: &[u16], sets: &[u8], l: usize) -> u8
     requires l_bound { l < literal_count literals.now }
     requires named_at { NamedAt literals.now (length sets.now) l }
-    ensures { result ≡ sidesOf sets.now (literal_in literals.now l) }
+    ensures { result ≡ sides_of sets.now (literal_in literals.now l) }
 {
     let p = left_in(literals, l);
     let q = right_in(literals, l);
@@ -68,7 +68,7 @@ fn never_at(literals: &[u16], l: usize) -> bool
 }
 
 pub(crate) fn never(literals: &[u16]) -> bool
-    ensures { result ≡ neverOf (literals_of literals.now) }
+    ensures { result ≡ never_of (literals_of literals.now) }
 {
     let n = literal_count(literals);
     let mut l = 0;

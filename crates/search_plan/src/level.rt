@@ -1,7 +1,7 @@
 // The level of each pattern row, and the number of variables.
 ghost use Rattle.std.specs.Prelude.{◌≡◌, ◌+◌, ◌<◌, max, length};
-ghost use Rattle.meaning.specs.Rules.{variables as variablesOf};
-ghost use Rattle.meaning.specs.Values.{highest as highestOf, level_of, levels as levels_of};
+ghost use Rattle.meaning.specs.Rules.{variables as variables_of};
+ghost use Rattle.meaning.specs.Values.{highest as highest_of, level_of, levels as levels_of};
 ghost use Rattle.runs.specs.Limits.{most_variables};
 ghost use Rattle.runs.specs.Runs.{pattern_count, pattern_args_in, pattern_in, patterns_of};
 ghost use Rattle.runs.specs.Fit.{Every, PatternAt};
@@ -27,7 +27,7 @@ fn over_variable(head: u16) -> u8
 // The highest level of the arguments of row i.
 fn highest(patterns: &[u16], levels: &[u8], i: usize) -> u8
     requires { ArgsFit patterns.now (length levels.now) i }
-    ensures { result ≡ highestOf levels.now (pattern_args_in patterns.now i) }
+    ensures { result ≡ highest_of levels.now (pattern_args_in patterns.now i) }
 {
     let n = pattern_count_in(patterns, i);
     let mut most = 0;
@@ -78,7 +78,7 @@ fn reached(patterns: &[u16], i: usize) -> u8
 // The highest variable number and one, or 0.
 pub(crate) fn variables(patterns: &[u16]) -> u8
     requires { Every (pattern_count patterns.now) (PatternAt patterns.now) }
-    ensures { result ≡ variablesOf (patterns_of patterns.now) }
+    ensures { result ≡ variables_of (patterns_of patterns.now) }
 {
     let n = pattern_count(patterns);
     let mut most = 0;

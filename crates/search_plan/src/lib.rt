@@ -7,7 +7,7 @@ ghost use Rattle.runs.specs.Limits.{most_patterns};
 ghost use Rattle.runs.specs.Runs.{patterns_of};
 ghost use Rattle.runs.specs.Fit.{FitClause};
 ghost use Rattle.search_plan.specs.Steps.{RuleFit};
-ghost use Rattle.search_plan.specs.Sets.{sets as setsOf};
+ghost use Rattle.search_plan.specs.Sets.{sets as sets_of};
 ghost use Rattle.search_plan.specs.Plans.{row_numbers, Ordered, plan_of, unfit_plan, Plans};
 
 use runs::fit::fit_clause;
@@ -72,7 +72,7 @@ fn level_numbers(patterns: &[u16]) -> [u8; PATTERNS]
 
 fn reach_numbers(patterns: &[u16]) -> [u8; PATTERNS]
     requires { RuleFit patterns.now }
-    ensures { result ≡ row_numbers (setsOf (patterns_of patterns.now)) }
+    ensures { result ≡ row_numbers (sets_of (patterns_of patterns.now)) }
 {
     let n = pattern_count(patterns);
     let mut run = zeros();

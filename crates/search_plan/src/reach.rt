@@ -4,7 +4,7 @@ ghost use Rattle.runs.specs.Limits.{most_variables};
 ghost use Rattle.runs.specs.Runs.{pattern_count, pattern_args_in, pattern_in, patterns_of};
 ghost use Rattle.runs.specs.Fit.{Every, PatternAt};
 ghost use Rattle.search_plan.specs.Steps.{RowFit, ArgsFit};
-ghost use Rattle.search_plan.specs.Sets.{union as unionOf, set_of, sets as setsOf};
+ghost use Rattle.search_plan.specs.Sets.{union as union_of, set_of, sets as sets_of};
 
 use runs::{head_in, pattern_arg_in, pattern_count_in, pattern_kind_in};
 
@@ -19,7 +19,7 @@ fn only(head: u16) -> u8
 // The variables of the arguments of row i.
 fn union(patterns: &[u16], sets: &[u8], i: usize) -> u8
     requires { ArgsFit patterns.now (length sets.now) i }
-    ensures { result ≡ unionOf sets.now 0 (pattern_args_in patterns.now i) }
+    ensures { result ≡ union_of sets.now 0 (pattern_args_in patterns.now i) }
 {
     let n = pattern_count_in(patterns, i);
     let mut all = 0;
@@ -44,7 +44,7 @@ fn set_of(patterns: &[u16], sets: &[u8], i: usize) -> u8
 pub(crate) fn sets(patterns: &[u16], sets: &mut [u8])
     requires every { Every (pattern_count patterns.now) (PatternAt patterns.now) }
     requires sets_len { length sets.old ≡ pattern_count patterns.now }
-    ensures { sets.new ≡ setsOf (patterns_of patterns.now) }
+    ensures { sets.new ≡ sets_of (patterns_of patterns.now) }
 {
     let n = sets.len();
     let mut i = 0;

@@ -5,10 +5,13 @@
 #![tactic(auto)]
 
 use casts::usize_of_u8;
-use libc::STDOUT_FILENO;
 use normaliser::Written;
 use replies::{INPUT_LIMIT, Outcome, Refusal};
-use reply_lines::{LINE_SPACE, Line, breach_line, none_line, refusal_line};
+use reply_lines::{Line, breach_line, none_line, refusal_line};
+use std::fs::File;
+use std::io::Read;
+use std::rt::Files;
+use std::{env, io};
 
 // One byte more than a text may have, so that one that is too long is known.
 const TEXT_SPACE: usize = INPUT_LIMIT + 1;
@@ -17,120 +20,116 @@ const TEXT_SPACE: usize = INPUT_LIMIT + 1;
 const NORMAL_SPACE: usize = 8192;
 
 // The first n bytes but the last of them.
-fn put(bytes: &[u8], n: usize) {
-    if n > LINE_SPACE {
-        return;
+fn put(rt: &impl Print, bytes: &[u8], n: usize) -> io::Result<()> {
+    if n > bytes.len() {
+        return Ok(());
     }
     if n > 0 {
-        let m = io::count((n - 1) as isize, bytes);
-        io::write_all(STDOUT_FILENO, &bytes[..m]);
+        rt.write_all(&bytes[..n - 1])?;
     }
+    Ok(())
 }
 
 // A reply as the programs print it, without its line feed.
-fn show(line: Line) {
+fn show(rt: &impl Print, line: Line) -> io::Result<()> {
     let bytes = line.bytes;
-    put(&bytes, line.len);
+    put(rt, &bytes, line.len)
 }
 
-fn tell_finder(text: &[u8]) {
+fn tell_finder(rt: &impl Print, text: &[u8]) -> io::Result<()> {
     let r = finder::find(text);
     let outcome = r.outcome;
     let places = r.places;
     match outcome {
-        Outcome::Breach(n) => show(breach_line(usize_of_u8(n), places)),
-        Outcome::Clear => show(none_line()),
-        Outcome::Refused(x) => show(refusal_line(x)),
+        Outcome::Breach(n) => show(rt, breach_line(usize_of_u8(n), places)),
+        Outcome::Clear => show(rt, none_line()),
+        Outcome::Refused(x) => show(rt, refusal_line(x)),
     }
 }
 
-fn tell_same(is: bool) {
+fn tell_same(rt: &impl Print, is: bool) -> io::Result<()> {
     if is {
-        io::write_all(STDOUT_FILENO, b"same");
+        print!(rt; "same")
     } else {
-        io::write_all(STDOUT_FILENO, b"other");
+        print!(rt; "other")
     }
 }
 
-fn tell_written(text: &[u8], normal: &[u8], lent: &mut [u8]) {
+fn tell_written(rt: &impl Print, text: &[u8], normal: &[u8], lent: &mut [u8]) -> io::Result<()> {
     let written = normaliser::normalise(text, lent);
     match written {
-        Written::Wrote(n) => tell_same(n == normal.len() && check::same(lent, normal)),
-        Written::Refused(x) => show(refusal_line(x)),
+        Written::Wrote(n) => tell_same(rt, n == normal.len() && *lent == *normal),
+        Written::Refused(x) => show(rt, refusal_line(x)),
     }
 }
 
-fn tell_normaliser(text: &[u8], normal: &[u8]) {
+fn tell_normaliser(rt: &impl Print, text: &[u8], normal: &[u8]) -> io::Result<()> {
     let mut space = [0; NORMAL_SPACE];
-    let m = io::count(normal.len() as isize, &space);
-    tell_written(text, normal, &mut space[..m]);
+    let m = normal.len().min(NORMAL_SPACE);
+    tell_written(rt, text, normal, &mut space[..m])
 }
 
-fn tell_long() {
+fn tell_long(rt: &impl Print) -> io::Result<()> {
     let x = Refusal {
         number: 11,
         line: 0,
         offset: 0,
     };
-    show(refusal_line(x));
-    io::write_all(STDOUT_FILENO, b" / ");
-    show(refusal_line(x));
+    show(rt, refusal_line(x))?;
+    print!(rt; " / ")?;
+    show(rt, refusal_line(x))
 }
 
-fn tell(text: &[u8], normal: &[u8]) {
+fn tell(rt: &impl Print, text: &[u8], normal: &[u8]) -> io::Result<()> {
     if text.len() > INPUT_LIMIT {
-        tell_long();
-        return;
+        return tell_long(rt);
     }
-    tell_finder(text);
-    io::write_all(STDOUT_FILENO, b" / ");
-    tell_normaliser(text, normal);
+    tell_finder(rt, text)?;
+    print!(rt; " / ")?;
+    tell_normaliser(rt, text, normal)
 }
 
-fn name(i: usize) {
-    let mut path = io::buffer();
-    let m = os::arg(i, &mut path);
-    io::write_all(STDOUT_FILENO, &path[..m]);
-    io::write_all(STDOUT_FILENO, b": ");
-}
-
-fn open(i: usize) -> i32 {
-    let mut path = io::buffer();
-    let m = os::arg(i, &mut path);
-    let fd = os::open_read(&path[..m]);
-    if fd < 0 {
-        os::fail(&path[..m]);
-    }
-    fd
+// The bytes of a file, as many as are wanted at most. One that cannot be read is said on standard error.
+fn bytes_of<R: Files + Alloc + Eprint>(
+    rt: &R,
+    name: &str,
+    most: usize,
+) -> io::Result<Option<Vec<u8, R::A>>> {
+    let mut bytes = Vec::new(rt.alloc());
+    let file = match File::open(rt, name) {
+        Ok(file) => file,
+        Err(e) => {
+            eprintln!(rt; "{name}: {e}")?;
+            return Ok(None);
+        }
+    };
+    file.take(most as u64).read_to_end(&mut bytes)?;
+    Ok(Some(bytes))
 }
 
 // Nothing is written of a pair that has a file missing.
-fn one(i: usize, j: usize) {
-    let first = open(i);
-    let second = open(j);
-    if first < 0 || second < 0 {
-        return;
+fn one(
+    rt: &(impl Files + Alloc + Print + Eprint),
+    text_name: &str,
+    normal_name: &str,
+) -> io::Result<()> {
+    let text = bytes_of(rt, text_name, TEXT_SPACE)?;
+    let normal = bytes_of(rt, normal_name, NORMAL_SPACE)?;
+    if let (Some(text), Some(normal)) = (text, normal) {
+        print!(rt; "{text_name}: ")?;
+        tell(rt, &text, &normal)?;
+        println!(rt)?;
     }
-    let mut text = [0; TEXT_SPACE];
-    let n = io::read_full(first, &mut text);
-    libc::close(first);
-    let mut normal = [0; NORMAL_SPACE];
-    let m = io::read_full(second, &mut normal);
-    libc::close(second);
-    name(i);
-    tell(&text[..n], &normal[..m]);
-    io::write_all(STDOUT_FILENO, b"\n");
+    Ok(())
 }
 
-fn main() {
-    let n = os::arg_count();
-    let mut i: usize = 1;
-    while i < n {
-        let j = i + 1;
-        if j >= n {
-            return;
-        }
-        one(i, j);
-        i = j + 1;
+fn main(rt: HostRuntime) -> io::Result<()> {
+    let mut names = env::args(&rt)?.skip(1);
+    while let Some(text_name) = names.next() {
+        let Some(normal_name) = names.next() else {
+            break;
+        };
+        one(&rt, &text_name, &normal_name)?;
     }
+    Ok(())
 }

@@ -14,6 +14,7 @@ use grounds_intake::Parser;
 use grounds_steps::{STEPS, WORDS};
 use replies::INPUT_LIMIT;
 use reply_lines::Line;
+use std::rt::{Env, Files};
 
 // After a piece there may be more; the input ended with it; or it could not be read.
 #[derive(Clone, Copy)]
@@ -57,11 +58,16 @@ fn take_in(p: Parser, got: Got, piece: &[u8], text: &mut [u8], steps: &mut [[u64
 }
 
 // Takes what comes next of standard input.
-fn take_next(p: Parser, text: &mut [u8], steps: &mut [[u64; WORDS]]) -> Taken
+fn take_next(
+    rt: &(impl Input + Eprint),
+    p: Parser,
+    text: &mut [u8],
+    steps: &mut [[u64; WORDS]],
+) -> Taken
     ensures { TakesPiece (memory p text.old steps.old) result text.new steps.new }
 {
     let mut piece = piece_space();
-    let got = take_piece(&mut piece);
+    let got = take_piece(rt, &mut piece);
     match got {
         Got::Bytes(n) => take_in(p, got, &piece[..n], text, steps),
         Got::Failed => Taken {
@@ -85,14 +91,14 @@ fn left(turn: Turn, turns: usize) -> usize
 
 // Takes all of standard input. Nothing says that it ends, so the turns are counted down from a number that no run uses up; where one does, there
 // may still be more.
-fn take_all(text: &mut [u8], steps: &mut [[u64; WORDS]]) -> Taken
+fn take_all(rt: &(impl Input + Eprint), text: &mut [u8], steps: &mut [[u64; WORDS]]) -> Taken
     ensures { TakesAll (memory fresh text.old steps.old) result text.new steps.new }
 {
     let mut p = grounds_intake::start();
     let mut turn = Turn::More;
     let mut turns = usize::MAX;
     while turns > 0 {
-        let taken = take_next(p, text, steps);
+        let taken = take_next(rt, p, text, steps);
         let parser = taken.parser;
         p = parser;
         turn = taken.turn;
@@ -112,40 +118,44 @@ fn answer(taken: Taken, text: &mut [u8], steps: &mut [[u64; WORDS]]) -> Line
 }
 
 // Hands over a line that some input asks for.
-fn hand(line: &[u8]) -> Sent
+fn hand(rt: &(impl Print + Eprint), line: &[u8]) -> Sent
     requires { Verified line.now }
     ensures { Delivers Verified result }
 {
-    put(line)
+    put(rt, line)
 }
 
-fn deliver(line: Line) -> Sent
+fn deliver(rt: &(impl Print + Eprint), line: Line) -> Sent
     requires { Verifies line }
     ensures { Delivers Verified result }
 {
     let bytes = line.bytes;
     let len = line.len;
-    hand(&bytes[..len])
+    hand(rt, &bytes[..len])
 }
 
 // Where the input ended, its line is handed over; else there is no reply.
-fn run(text: &mut [u8], steps: &mut [[u64; WORDS]])
+fn run(
+    rt: &(impl Input + Print + Eprint + Env + Files),
+    text: &mut [u8],
+    steps: &mut [[u64; WORDS]],
+)
     requires { Spaces text.old steps.old }
 {
-    let taken = take_all(text, steps);
+    let taken = take_all(rt, text, steps);
     let turn = taken.turn;
     match turn {
-        Turn::Ended => report(deliver(answer(taken, text, steps))),
+        Turn::Ended => report(rt, deliver(rt, answer(taken, text, steps))),
         Turn::More => {
-            say_endless();
-            tell(FAILED);
+            say_endless(rt);
+            tell(rt, FAILED);
         }
-        Turn::Failed => tell(FAILED),
+        Turn::Failed => tell(rt, FAILED),
     }
 }
 
-fn main() {
+fn main(rt: HostRuntime) {
     let mut text = [0u8; INPUT_LIMIT];
     let mut steps = [[0u64; WORDS]; STEPS];
-    run(&mut text, &mut steps);
+    run(&rt, &mut text, &mut steps);
 }

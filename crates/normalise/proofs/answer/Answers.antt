@@ -1,16 +1,11 @@
--- `normalise::answer` meets its contract: with space for any normal text, the two parts are what has to be printed.
+-- `normalise::answer` meets its contract: the two parts stand at the front of their spaces.
 -- Assumes nothing.
-use Rattle.normalise.proofs.Handing.{mine}
+use Rattle.channels.proofs.Fronts.{first_count}
+use Rattle.normalise.proofs.Handing.{text-fits, mine}
 use Rattle.normalise.proofs.answer.Goals as goal
 
-pub normal_space-space-requires : goal.normal_space-space-requires
-normal_space-space-requires c = search mine
-
-pub normalise_prints-parts-requires : goal.normalise_prints-parts-requires
-normalise_prints-parts-requires c = search mine
+pub slice_bounds-hand-end : goal.slice_bounds-hand-end
+slice_bounds-hand-end g c = first_count _ _ (text-fits _ _ _ _ c.normalise_prints-parts.ensures.prints)
 
 pub hand-requires : goal.hand-requires
-hand-requires c = search mine
-
-pub returns : goal.returns
-returns c = search mine
+hand-requires g c = search mine

@@ -1,0 +1,13 @@
+// What a program says on standard error. Where nothing can be said there, nothing is.
+use std::io::Error;
+
+// Says a line.
+pub(crate) fn say(rt: &impl Eprint, line: &str) {
+    let _ = eprintln!(rt; "{line}");
+}
+
+// Says what failed, and why, by the number of the error.
+pub(crate) fn say_failure(rt: &impl Eprint, what: &str, error: i32) {
+    let why = Error::from_raw_os_error(error);
+    let _ = eprintln!(rt; "{what}: {why}");
+}
