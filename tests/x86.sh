@@ -53,8 +53,7 @@ aarch64)
     fetch_x86_std
     RUSTC="/usr/bin/rustc --sysroot $sysroot --target $x86_target -C linker=x86_64-linux-gnu-gcc -L native=$sysroot/native $static"
     RUN=$(command -v qemu-x86_64)
-    kit=${RATTLE_HOME:-$(dirname "$(dirname "$(readlink -f "$(command -v rt)")")")}/on/aarch64/toolchain
-    LAUNCH="$kit/bin/qemu-x86_64 $kit/lib/ld-linux-x86-64.so.2 --library-path $kit/lib"
+    LAUNCH=$RUN
     ;;
 *)
     echo "no way to build x86-64 code is known on $(uname -m)" >&2
