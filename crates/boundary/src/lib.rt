@@ -1,7 +1,7 @@
 // The finder and the normaliser for programs in other languages: a reply is one number, and what it hands over stands in the caller's space.
 #![tactic(auto)]
 
-mod table;
+pub mod table;
 
 ghost use Rattle.std.specs.Prelude.{◌≡◌};
 ghost use Rattle.boundary.specs.Claims.{Answers, Proceeds, Settles};
@@ -42,8 +42,7 @@ fn hand(outcome: Outcome, places: [u16; 4], rows: &mut [u16; 4])
 }
 
 // uint64_t checker_find(const uint8_t *text, size_t length, uint16_t rows[4])
-#[unsafe(no_mangle)]
-pub extern "C" fn checker_find(text: &[u8], rows: &mut [u16; 4]) -> u64
+pub fn checker_find(text: &[u8], rows: &mut [u16; 4]) -> u64
     ensures answers { Answers text.now rows.old result rows.new }
 {
     let reply = finder::find(text);
@@ -54,8 +53,7 @@ pub extern "C" fn checker_find(text: &[u8], rows: &mut [u16; 4]) -> u64
 }
 
 // uint64_t checker_next(const uint8_t *text, size_t length, uint16_t rows[4])
-#[unsafe(no_mangle)]
-pub extern "C" fn checker_next(text: &[u8], rows: &mut [u16; 4]) -> u64
+pub fn checker_next(text: &[u8], rows: &mut [u16; 4]) -> u64
     ensures proceeds { Proceeds text.now rows.old result rows.new }
 {
     let after = *rows;
@@ -77,8 +75,7 @@ fn pack_written(written: Written) -> u64
 }
 
 // uint64_t checker_normalise(const uint8_t *text, size_t length, uint8_t *lent, size_t room)
-#[unsafe(no_mangle)]
-pub extern "C" fn checker_normalise(text: &[u8], lent: &mut [u8]) -> u64
+pub fn checker_normalise(text: &[u8], lent: &mut [u8]) -> u64
     ensures settles { Settles text.now lent.old result lent.new }
 {
     let written = normaliser::normalise(text, lent);

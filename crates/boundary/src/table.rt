@@ -40,8 +40,7 @@ fn tell(reply: Reply, places: &mut [u16; 4]) -> u64
 }
 
 // uint64_t checker_find_rows(const checker_row *rows, size_t count, const checker_statements *said, const checker_rule *rule, uint16_t places[4])
-#[unsafe(no_mangle)]
-pub extern "C" fn checker_find_rows(
+pub fn checker_find_rows(
     rows: &[Row],
     said: &Statements,
     rule: &ClauseColumns,
