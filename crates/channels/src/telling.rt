@@ -1,4 +1,4 @@
-// What a program says of its run, since it has no exit status: one byte, on the descriptor that its first argument names. Without such an argument it says nothing.
+// What a program says of its run: one byte, on the descriptor that its first argument names. Without such an argument it says nothing.
 ghost use Rattle.std.specs.Prelude.{◌≡◌};
 ghost use Rattle.channels.specs.Telling.{place_of, status_of};
 
