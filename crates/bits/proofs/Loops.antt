@@ -13,9 +13,9 @@ use borrow.Author.Tests.{eqb-true, eqb-false}
 use lib.Bits.{bit_and, bit_or}
 use lib.Count.{count_trailing_zeros}
 use lib.Dec.{eqb}
-use lib.ListN.{length, get_or, set, length-set, get_or-eq_default}
+use lib.ListN.{length, get_or, set, length-set}
 use lib.Seq.{get_or-set_same, get_or-set_other}
-use Rattle.bits.specs.Sets.{bit_at, has, Lowest, Met, Places, Low, Next, United, Emptied}
+use Rattle.bits.specs.Sets.{bit_at, has, Lowest, Met, Places, NoneFrom, First, United}
 use Rattle.bits.proofs.Words.{none_has, has-at, has_on, shift-has, high-none, remove-has, words-none, words-first}
 
 pub met_start : (ws : List ℕ) (a b i : ℕ) → i ≡ 0 → Met ws ws a b i
@@ -71,21 +71,19 @@ none-turn ws base i x m k e z q = record { zero = λ j h. go j h (eqb j i) refl 
     go j h true t = let y : j ≡ i = eqb-true j i t in ap (λ (n : ℕ). get_or ws (base + n) 0) y ∙ (omega (arith, e))
     go j h false t = k.zero j (omega (arith, eqb-false j i t))
 
-pub low-none : (ws : List ℕ) (base n i r : ℕ) → None ws base i → i ≤ n → n ≤ i → r ≡ n * 64 → Low ws base n r
-low-none ws base n i r k e g q =
-    record { within = omega arith; here = λ h. absurd (omega arith); first = λ j h. words-none ws base i k.zero j (omega arith) }
+pub low-none : (ws : List ℕ) (base n i : ℕ) → None ws base i → n ≤ i → NoneFrom ws base n 0
+low-none ws base n i k g = record { none = λ j _ h. words-none ws base i k.zero j (omega arith) }
 
 pub low-some : (ws : List ℕ) (base n i x t r : ℕ) → None ws base i → i < n → x ≡ get_or ws (base + i) 0 → (t < 64) × Lowest (bit_at x) t × (t ≡ count_trailing_zeros 64 x) → r ≡ i * 64 + t
-    → Low ws base n r
+    → First ws base n 0 r
 low-some ws base n i x t r k h e w q =
     let l : Lowest (has ws base) (i * 64 + t) = words-first ws base i t k.zero w.0 (rw e at w.1) in
-    record { within = omega (arith, w.0); here = λ _. rw q l.here; first = λ j c. l.first j (omega arith) }
+    record { within = omega (arith, w.0); later = omega arith; here = rw q l.here; first = λ j _ c. l.first j (omega arith) }
 
 -- ---- the lowest from a bound on
 
-pub next-none : (ws : List ℕ) (base n from i r : ℕ) → i ≡ from / 64 → n ≤ i → r ≡ n * 64 → Next ws base n from r
-next-none ws base n from i r e h q =
-    record { within = omega arith; later = λ l. omega arith; here = λ l. absurd (omega arith); first = λ k l m. absurd (omega arith) }
+pub next-none : (ws : List ℕ) (base n from i : ℕ) → i ≡ from / 64 → n ≤ i → NoneFrom ws base n from
+next-none ws base n from i e h = record { none = λ k l m. absurd (omega arith) }
 
 -- bits of the word in which the bound lies
 word_on : (ws : List ℕ) (base from j : ℕ) → from % 64 + j < 64 → has ws base (from + j) ≡ bit_at (get_or ws (base + from / 64) 0 / 2 ^ (from % 64)) j
@@ -95,7 +93,7 @@ word_on ws base from j h =
 
 pub next_here : (ws : List ℕ) (base n from i word x t r : ℕ) → i ≡ from / 64 → i < n → word ≡ get_or ws (base + i) 0
     → (x ≡ word / 2 ^ (from % 64)) × (word < 2 ^ 64) → (t < 64) × Lowest (bit_at x) t × (t ≡ count_trailing_zeros 64 x) → r ≡ from + t
-    → Next ws base n from r
+    → First ws base n from r
 next_here ws base n from i word x t r ei h ew shifted w q = go (dec_lt (from % 64 + t) 64)
   where
     y : ℕ
@@ -107,12 +105,12 @@ next_here ws base n from i word x t r ei h ew shifted w q = go (dec_lt (from % 6
     l : Lowest (bit_at y) t
     l = subst (λ (v : ℕ). Lowest (bit_at v) t) (shifted.0 ∙ ap (λ (v : ℕ). v / 2 ^ (from % 64)) at) w.1
 
-    go : Dec (from % 64 + t < 64) → Next ws base n from r
+    go : Dec (from % 64 + t < 64) → First ws base n from r
     go (yes s) =
         record {
           within = omega arith;
-          later = λ _. omega arith;
-          here = λ _. rw q (word_on ws base from t s ∙ l.here);
+          later = omega arith;
+          here = rw q (word_on ws base from t s ∙ l.here);
           first = λ k a b.
               let z : k ≡ from + (k - from) = omega arith in
               ap (has ws base) z ∙ word_on ws base from (k - from) (omega arith) ∙ l.first (k - from) (omega arith);
@@ -120,29 +118,41 @@ next_here ws base n from i word x t r ei h ew shifted w q = go (dec_lt (from % 6
     go (no s) =
         false-true (sym (shift-has (get_or ws (base + from / 64) 0) (from % 64) t) ∙ l.here) (high-none (get_or ws (base + from / 64) 0) (from % 64 + t) (rw (sym at) shifted.1) (omega arith))
 
-pub next-after : (ws : List ℕ) (base n from i k word x s r : ℕ) → i ≡ from / 64 → i < n → word ≡ get_or ws (base + i) 0 → (x ≡ word / 2 ^ (from % 64)) × (word < 2 ^ 64) → x ≤ 0 → k ≡ i + 1
-    → Low ws (base + k) (n - k) s → r ≡ k * 64 + s → Next ws base n from r
-next-after ws base n from i k word x s r ei h ew shifted z ek low q =
-    record {
-      within = omega (arith, low.within);
-      later = λ _. omega arith;
-      here = λ l. rw q (sym (has_on ws base k s) ∙ low.here (omega (arith, low.within)));
-      first = λ m a b. go m a b (dec_lt m (k * 64));
-    }
-  where
-    none : x ≡ 0
-    none = omega arith
+-- the word in which the bound lies has no member from it on
+module _ (ws : List ℕ) (base n from i k word x : ℕ) (ei : i ≡ from / 64) (h : i < n) (ew : word ≡ get_or ws (base + i) 0)
+    (shifted : (x ≡ word / 2 ^ (from % 64)) × (word < 2 ^ 64)) (z : x ≤ 0) (ek : k ≡ i + 1) where
+  none-here : (m : ℕ) → from ≤ m → m < k * 64 → has ws base m ≡ false
+  none-here m a l =
+      let none : x ≡ 0 = omega arith in
+      let w : m ≡ from + (m - from) = omega arith in
+      ap (has ws base) w
+      ∙ word_on ws base from (m - from) (omega arith)
+      ∙ ap (λ (v : ℕ). bit_at v (m - from)) (ap (λ (v : ℕ). get_or ws (base + v) 0 / 2 ^ (from % 64)) (sym ei) ∙ ap (λ (v : ℕ). v / 2 ^ (from % 64)) (sym ew) ∙ sym shifted.0 ∙ none)
+      ∙ none_has (m - from)
 
-    go : (m : ℕ) → from ≤ m → m < r → Dec (m < k * 64) → has ws base m ≡ false
-    go m a b (yes l) =
-        let w : m ≡ from + (m - from) = omega arith in
-        ap (has ws base) w
-        ∙ word_on ws base from (m - from) (omega arith)
-        ∙ ap (λ (v : ℕ). bit_at v (m - from)) (ap (λ (v : ℕ). get_or ws (base + v) 0 / 2 ^ (from % 64)) (sym ei) ∙ ap (λ (v : ℕ). v / 2 ^ (from % 64)) (sym ew) ∙ sym shifted.0 ∙ none)
-        ∙ none_has (m - from)
-    go m a b (no l) =
-        let w : m ≡ k * 64 + (m - k * 64) = omega arith in
-        ap (has ws base) w ∙ sym (has_on ws base k (m - k * 64)) ∙ low.first (m - k * 64) (omega arith)
+  -- a place behind it
+  behind : (m : ℕ) → k * 64 ≤ m → has ws base m ≡ has ws (base + k) (m - k * 64)
+  behind m l = let w : m ≡ k * 64 + (m - k * 64) = omega arith in ap (has ws base) w ∙ sym (has_on ws base k (m - k * 64))
+
+  pub next-after : (s r : ℕ) → First ws (base + k) (n - k) 0 s → r ≡ k * 64 + s → First ws base n from r
+  next-after s r low q =
+      record {
+        within = omega (arith, low.within);
+        later = omega arith;
+        here = rw q (sym (has_on ws base k s) ∙ low.here);
+        first = λ m a b. go m a b (dec_lt m (k * 64));
+      }
+    where
+      go : (m : ℕ) → from ≤ m → m < r → Dec (m < k * 64) → has ws base m ≡ false
+      go m a b (yes l) = none-here m a l
+      go m a b (no l) = behind m (omega arith) ∙ low.first (m - k * 64) (omega arith) (omega arith)
+
+  pub next-after-none : NoneFrom ws (base + k) (n - k) 0 → NoneFrom ws base n from
+  next-after-none low = record { none = λ m a b. go m a b (dec_lt m (k * 64)) }
+    where
+      go : (m : ℕ) → from ≤ m → m < n * 64 → Dec (m < k * 64) → has ws base m ≡ false
+      go m a b (yes l) = none-here m a l
+      go m a b (no l) = behind m (omega arith) ∙ low.none (m - k * 64) (omega arith) (omega arith)
 
 -- ---- words added
 
@@ -178,26 +188,4 @@ united-turn old more new a b n i w m p h k e q =
 pub united-end : (old more new : List ℕ) (a b n i : ℕ) → United old more new a b i → i ≤ n → n ≤ i → United old more new a b n
 united-end old more new a b n i k h l = let e : i ≡ n = omega arith in subst (United old more new a b) e k
 
--- ---- words without a member: the first i are so
-pub record Emptying (old new : List ℕ) (i : ℕ) : Type 0 where
-  pub long : length new ≡ length old
-  pub words : (j : ℕ) → j < i → get_or new j 0 ≡ 0
-
-pub emptying-start : (ws : List ℕ) (i : ℕ) → i ≡ 0 → Emptying ws ws i
-emptying-start ws i e = record { long = refl; words = λ j h. absurd (omega arith) }
-
-pub emptying-turn : (old new : List ℕ) (n i w m : ℕ) → Emptying old new i → n ≡ length old → i < n → w ≡ 0 → m ≡ i + 1 → Emptying old (set new i w) m
-emptying-turn old new n i w m k l h e q = record { long = length-set new i w ∙ k.long; words = λ j g. go j g (eqb j i) refl }
-  where
-    go : (j : ℕ) → j < m → (b : Bool) → eqb j i ≡ b → get_or (set new i w) j 0 ≡ 0
-    go j g true z = let t : j ≡ i = eqb-true j i z in rw t (get_or-set_same new i w 0 (omega (arith, k.long)) ∙ e)
-    go j g false z = get_or-set_other new i j w 0 (eqb-false j i z) ∙ k.words j (omega (arith, eqb-false j i z))
-
-pub emptying-end : (old new : List ℕ) (n i : ℕ) → Emptying old new i → n ≡ length old → n ≤ i → Emptied (length old) new
-emptying-end old new n i k l h = record { long = k.long; words = λ j. go j (dec_lt j i) }
-  where
-    go : (j : ℕ) → Dec (j < i) → get_or new j 0 ≡ 0
-    go j (yes g) = k.words j g
-    go j (no g) = get_or-eq_default new 0 (omega (arith, k.long))
-
-pub ruleset mine = (rules, met_start, met-turn, met-end, none-start, none-turn, low-none, low-some, next-none, next_here, next-after, united-start, united-turn, united-end, emptying-start, emptying-turn, emptying-end, remove-has)
+pub ruleset mine = (rules, met_start, met-turn, met-end, none-start, none-turn, low-none, low-some, next-none, next_here, next-after, next-after-none, united-start, united-turn, united-end, remove-has)

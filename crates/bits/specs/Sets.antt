@@ -4,12 +4,12 @@
 --     Lowest           the lowest member of a set
 --     size_of           how many members n words have
 --     Met, Places      n words hold what they and n others had in common, and no other word has changed; both stand in the run, apart
---     Low              the lowest member of n words, or n * 64
---     Next             the lowest that is no lower than a bound, or n * 64
+--     NoneFrom, First  n words have no member that is no lower than a bound; the lowest such
+--     Next, Low        one of the two; the same where the bound is 0
 --     United           n words hold what they or n words of another run had, and no other word has changed
 --     Emptied          n words without a member
 -- Assumes nothing.
-use Rattle.std.specs.Prelude.{Bool, true, false, ◌||◌, List, ◌≡◌, ◌⊎◌, ℕ, zero, suc, ◌+◌, ◌*◌, ◌/◌, ◌%◌, ◌^◌, ◌≤◌, ◌<◌, eqb, length, get_or}
+use Rattle.std.specs.Prelude.{Bool, true, false, ◌||◌, Option, None, Some, List, ◌≡◌, ◌⊎◌, ℕ, zero, suc, ◌+◌, ◌*◌, ◌/◌, ◌%◌, ◌^◌, ◌≤◌, ◌<◌, eqb, length, get_or}
 use Rattle.std.specs.Int.Bits.{bit_and, bit_or}
 use Rattle.std.specs.Int.Count.{ones}
 
@@ -47,16 +47,21 @@ pub record Places (size a b n : ℕ) : Type 0 where
   pub right : b + n ≤ size
   pub apart : (a + n ≤ b) ⊎ (b + n ≤ a)
 
-pub record Low (ws : List ℕ) (base n r : ℕ) : Type 0 where
-  pub within : r ≤ n * 64
-  pub here : r < n * 64 → has ws base r ≡ true
-  pub first : (k : ℕ) → k < r → has ws base k ≡ false
+pub record NoneFrom (ws : List ℕ) (base n from : ℕ) : Type 0 where
+  pub none : (k : ℕ) → from ≤ k → k < n * 64 → has ws base k ≡ false
 
-pub record Next (ws : List ℕ) (base n from r : ℕ) : Type 0 where
-  pub within : r ≤ n * 64
-  pub later : from ≤ n * 64 → from ≤ r
-  pub here : r < n * 64 → has ws base r ≡ true
+pub record First (ws : List ℕ) (base n from r : ℕ) : Type 0 where
+  pub within : r < n * 64
+  pub later : from ≤ r
+  pub here : has ws base r ≡ true
   pub first : (k : ℕ) → from ≤ k → k < r → has ws base k ≡ false
+
+abbrev pub Next : List ℕ → ℕ → ℕ → ℕ → Option ℕ → Type 0
+Next ws base n from None = NoneFrom ws base n from
+Next ws base n from (Some r) = First ws base n from r
+
+abbrev pub Low : List ℕ → ℕ → ℕ → Option ℕ → Type 0
+Low ws base n r = Next ws base n 0 r
 
 pub record United (old more new : List ℕ) (a b n : ℕ) : Type 0 where
   pub long : length new ≡ length old

@@ -47,7 +47,7 @@ pub fn low(x: u64) -> usize
     requires { 0 < x }
     ensures { (result < 64) × Lowest (bit_at x) result × (result ≡ count_trailing_zeros 64 x) }
 {
-    u64::trailing_zeros(x) as usize
+    x.trailing_zeros() as usize
 }
 
 // A word without its lowest bit.
@@ -62,7 +62,7 @@ pub fn rest(x: u64) -> u64
 pub fn count(x: u64) -> u32
     ensures { result ≡ size 64 (bit_at x) }
 {
-    u64::count_ones(x)
+    x.count_ones()
 }
 
 // The set from a on is cut to what the set from b on has too.
@@ -70,30 +70,27 @@ pub fn meet(words: &mut [u64], a: usize, b: usize, n: usize)
     requires { Places (length words.old) a b n }
     ensures { Met words.old words.new a b n }
 {
-    let mut i: usize = 0;
-    while i < n {
+    // No iterator: both sets lie in one run.
+    for i in 0..n {
         let x = words[a + i];
         let y = words[b + i];
         words[a + i] = x & y;
-        i += 1;
     }
 }
 
-// The lowest member of n words, or n * 64.
-pub fn lowest(words: &[u64], base: usize, n: usize) -> usize
+// The lowest member of n words.
+pub fn lowest(words: &[u64], base: usize, n: usize) -> Option<usize>
     requires n_in_bounds { base + n ≤ length words.now }
     requires n_bound { n ≤ 16 }
     ensures { Low words.now base n result }
 {
-    let mut i: usize = 0;
-    while i < n {
+    for i in 0..n {
         let x = words[base + i];
         if 0 < x {
-            return i * 64 + low(x);
+            return Some(i * 64 + low(x));
         }
-        i += 1;
     }
-    n * 64
+    None
 }
 
 // The bits of a word from bit k on. The caller learns how large a word is.
@@ -104,22 +101,23 @@ fn above(x: u64, k: usize) -> u64
     x >> k
 }
 
-// The lowest member of n words that is no lower than a bound, or n * 64.
-pub fn next(words: &[u64], base: usize, n: usize, from: usize) -> usize
+// The lowest member of n words that is no lower than a bound.
+pub fn next(words: &[u64], base: usize, n: usize, from: usize) -> Option<usize>
     requires n_in_bounds { base + n ≤ length words.now }
     requires n_bound { n ≤ 16 }
     ensures { Next words.now base n from result }
 {
     let i = from / 64;
     if n <= i {
-        return n * 64;
+        return None;
     }
     let x = above(words[base + i], from % 64);
     if 0 < x {
-        return from + low(x);
+        return Some(from + low(x));
     }
     let k = i + 1;
-    k * 64 + lowest(words, base + k, n - k)
+    let r = lowest(words, base + k, n - k)?;
+    Some(k * 64 + r)
 }
 
 // The n words of another run are added to those from a on.
@@ -127,12 +125,11 @@ pub fn unite(words: &mut [u64], a: usize, others: &[u64], b: usize, n: usize)
     requires { (a + n ≤ length words.old) × (b + n ≤ length others.now) }
     ensures { United words.old others.now words.new a b n }
 {
-    let mut i: usize = 0;
-    while i < n {
+    // No iterator: the index names a word of either run.
+    for i in 0..n {
         let x = words[a + i];
         let y = others[b + i];
         words[a + i] = x | y;
-        i += 1;
     }
 }
 
@@ -140,10 +137,5 @@ pub fn unite(words: &mut [u64], a: usize, others: &[u64], b: usize, n: usize)
 pub fn empty(words: &mut [u64])
     ensures { Emptied (length words.old) words.new }
 {
-    let n = words.len();
-    let mut i: usize = 0;
-    while i < n {
-        words[i] = 0;
-        i += 1;
-    }
+    words.fill(0);
 }

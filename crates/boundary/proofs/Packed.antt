@@ -36,10 +36,9 @@ use Rattle.replies.specs.declared.Outcome.{Outcome}
 use Rattle.replies.specs.declared.Outcome.TheVariants as O
 use Rattle.replies.specs.declared.Reply.{Reply}
 use Rattle.normaliser.specs.Claims.{written_by, normal_limit}
-use Rattle.normaliser.specs.declared.Written.{Written}
-use Rattle.normaliser.specs.declared.Written.TheVariants as W
+use Rattle.std.specs.Prelude.{Result, Ok, Err}
 use Rattle.boundary.specs.Claims.{rows_after, Answers, Proceeds, Settles}
-use Rattle.boundary.specs.Packs.{packed_by, packed_outcome, handed_by, Small, packed_answer}
+use Rattle.boundary.specs.Packs.{packed_by, packed_outcome, handed_by, Told, Small, packed_answer}
 
 -- ---- the finder
 
@@ -71,14 +70,13 @@ told-handed (O.Refused x) (breach a) e rows = absurd (let z : ◌≡◌ {A = ℕ
 told-handed (O.Refused x) none e rows = absurd (let z : ◌≡◌ {A = ℕ} 10 9 = cc in omega arith)
 told-handed (O.Refused x) (refused f) e rows = refl
 
-pub answers-found : (text : List ℕ) (r : Reply) → Finds text r → (rows after : List ℕ) → after ≡ handed_by r.outcome r.places rows
-    → (number : ℕ) → number ≡ packed_outcome r.outcome → Answers text rows number after
-answers-found text r w rows after h number e =
+pub answers-found : (text : List ℕ) (r : Reply) → Finds text r → (rows after : List ℕ) (number : ℕ) → Told r rows number after → Answers text rows number after
+answers-found text r w rows after number t =
     record {
       reply = w.reply;
       replies = w.replies;
-      packed = e ∙ told-packed r.outcome w.reply w.told;
-      handed = h ∙ ap (λ (l : List ℕ). handed_by r.outcome l rows) w.places ∙ told-handed r.outcome w.reply w.told rows;
+      packed = t.packed ∙ told-packed r.outcome w.reply w.told;
+      handed = t.handed ∙ ap (λ (l : List ℕ). handed_by r.outcome l rows) w.places ∙ told-handed r.outcome w.reply w.told rows;
     }
 
 pub answers_one : (text rows : List ℕ) (m n : ℕ) (s t : List ℕ) → Answers text rows m s → Answers text rows n t → (m ≡ n) × (s ≡ t)
@@ -86,14 +84,13 @@ answers_one text rows m n s t p q =
     let e : p.reply ≡ q.reply = replies-one narrow text p.reply q.reply p.replies q.replies in
     (p.packed ∙ ap packed_reply e ∙ sym q.packed, p.handed ∙ ap (λ (r : M.Reply). rows_after r rows) e ∙ sym q.handed)
 
-pub proceeds-found : (text rows : List ℕ) (r : Reply) → Follows text rows r → (after : List ℕ) → after ≡ handed_by r.outcome r.places rows
-    → (number : ℕ) → number ≡ packed_outcome r.outcome → Proceeds text rows number after
-proceeds-found text rows r w after h number e =
+pub proceeds-found : (text rows : List ℕ) (r : Reply) → Follows text rows r → (after : List ℕ) (number : ℕ) → Told r rows number after → Proceeds text rows number after
+proceeds-found text rows r w after number t =
     record {
       reply = w.reply;
       replies = w.replies;
-      packed = e ∙ told-packed r.outcome w.reply w.told;
-      handed = h ∙ ap (λ (l : List ℕ). handed_by r.outcome l rows) w.places ∙ told-handed r.outcome w.reply w.told rows;
+      packed = t.packed ∙ told-packed r.outcome w.reply w.told;
+      handed = t.handed ∙ ap (λ (l : List ℕ). handed_by r.outcome l rows) w.places ∙ told-handed r.outcome w.reply w.told rows;
     }
 
 pub proceeds-one : (text rows : List ℕ) (m n : ℕ) (s t : List ℕ) → Proceeds text rows m s → Proceeds text rows n t → (m ≡ n) × (s ≡ t)
@@ -131,15 +128,15 @@ wrote-few text lent after r a n w (fits out h) e = let k : length out ≡ n = cc
 wrote-few text lent after r a n w (short out h) e = absurd (let z : ◌≡◌ {A = ℕ} 0 1 = cc in omega arith)
 wrote-few text lent after r a n w (stays f) e = absurd (let z : ◌≡◌ {A = ℕ} 0 1 = cc in omega arith)
 
-pub wrote-small : (text lent after : List ℕ) (r : Written) → Writes narrow text lent (written_by r) after → Small r
+pub wrote-small : (text lent after : List ℕ) (r : Result ℕ Refusal) → Writes narrow text lent (written_by r) after → Small r
 wrote-small text lent after r w = record { few = λ n e. wrote-few text lent after w.result (written_by r) n w.normalises w.leaves (ap written_by e) }
 
-answer-packed : (r : Written) → packed_answer r ≡ packed_written (written_by r)
+answer-packed : (r : Result ℕ Refusal) → packed_answer r ≡ packed_written (written_by r)
 unfolding packed_written
-answer-packed (W.Wrote n) = refl
-answer-packed (W.Refused x) = refl
+answer-packed (Ok n) = refl
+answer-packed (Err x) = refl
 
-pub settles-written : (text lent after : List ℕ) (r : Written) → Writes narrow text lent (written_by r) after
+pub settles-written : (text lent after : List ℕ) (r : Result ℕ Refusal) → Writes narrow text lent (written_by r) after
     → (number : ℕ) → number ≡ packed_answer r → Settles text lent number after
 settles-written text lent after r w number e = record { answer = written_by r; writes = w; packed = e ∙ answer-packed r }
 
@@ -156,13 +153,13 @@ pack-breach o n e = sym (ap packed_outcome e)
 pub pack-refused : (o : Outcome) (x : Refusal) → o ≡ O.Refused x → (m : ℕ) → m ≡ packed_by x → m ≡ packed_outcome o
 pack-refused o x e m h = h ∙ sym (ap packed_outcome e)
 
-pub pack-wrote : (r : Written) (n : ℕ) → r ≡ W.Wrote n → 256 * n ≡ packed_answer r
+pub pack-wrote : (r : Result ℕ Refusal) (n : ℕ) → r ≡ Ok n → 256 * n ≡ packed_answer r
 pack-wrote r n e = sym (ap packed_answer e)
 
-pub pack-unwritten : (r : Written) (x : Refusal) → r ≡ W.Refused x → (m : ℕ) → m ≡ packed_by x → m ≡ packed_answer r
+pub pack-unwritten : (r : Result ℕ Refusal) (x : Refusal) → r ≡ Err x → (m : ℕ) → m ≡ packed_by x → m ≡ packed_answer r
 pack-unwritten r x e m h = h ∙ sym (ap packed_answer e)
 
-pub wrote-fits : (r : Written) (n : ℕ) → Small r → r ≡ W.Wrote n → Fits w64 (256 * n)
+pub wrote-fits : (r : Result ℕ Refusal) (n : ℕ) → Small r → r ≡ Ok n → Fits w64 (256 * n)
 wrote-fits r n h e = omega (arith, h.few n e)
 
 pub ruleset mine = (rules, answers-found, proceeds-found, wrote-small, settles-written, pack-breach, pack-refused, pack-wrote, pack-unwritten, wrote-fits)

@@ -1,17 +1,17 @@
 -- What the parts return: the number of an outcome or of an answer, and the rows that an outcome leaves.
 --     packed_by, packed_outcome, packed_answer   a refusal, the finder's outcome and the normaliser's answer as numbers
 --     handed_by                                the caller's rows after an outcome
+--     Told                                    a reply's number, and the caller's rows after it
 --     Small                                   an answer of no more bytes than a normal text has
 -- Assumes nothing.
-use Rattle.std.specs.Prelude.{List, ◌≡◌, ℕ, ◌+◌, ◌*◌, ◌≤◌}
+use Rattle.std.specs.Prelude.{List, ◌≡◌, ℕ, ◌+◌, ◌*◌, ◌≤◌, Result, Ok, Err}
 use Rattle.meaning.specs.Packing.{packed_refusal}
 use Rattle.replies.specs.Told.{meant}
 use Rattle.replies.specs.declared.Refusal.{Refusal}
 use Rattle.replies.specs.declared.Outcome.{Outcome}
 use Rattle.replies.specs.declared.Outcome.TheVariants as O
+use Rattle.replies.specs.declared.Reply.{Reply}
 use Rattle.normaliser.specs.Claims.{normal_limit}
-use Rattle.normaliser.specs.declared.Written.{Written}
-use Rattle.normaliser.specs.declared.Written.TheVariants as W
 
 abbrev pub packed_by : Refusal → ℕ
 packed_by x = packed_refusal (meant x)
@@ -26,9 +26,14 @@ handed_by (O.Breach n) places rows = places
 handed_by O.Clear places rows = rows
 handed_by (O.Refused x) places rows = rows
 
-pub record Small (answer : Written) : Type 0 where
-  pub few : (n : ℕ) → answer ≡ W.Wrote n → n ≤ normal_limit
+-- a reply's number, and the caller's rows after it
+pub record Told (reply : Reply) (rows : List ℕ) (number : ℕ) (after : List ℕ) : Type 0 where
+  pub packed : number ≡ packed_outcome reply.outcome
+  pub handed : after ≡ handed_by reply.outcome reply.places rows
 
-abbrev pub packed_answer : Written → ℕ
-packed_answer (W.Wrote n) = 256 * n
-packed_answer (W.Refused x) = packed_by x
+pub record Small (answer : Result ℕ Refusal) : Type 0 where
+  pub few : (n : ℕ) → answer ≡ Ok n → n ≤ normal_limit
+
+abbrev pub packed_answer : Result ℕ Refusal → ℕ
+packed_answer (Ok n) = 256 * n
+packed_answer (Err x) = packed_by x

@@ -7,6 +7,7 @@ ghost use Rattle.boundary.specs.Rows.{AnswersRows};
 use records::{ClauseColumns, Row, Statements};
 
 // uint64_t checker_find(const uint8_t *text, size_t length, uint16_t rows[4])
+// Beside checker_next: C calls each by its name.
 #[unsafe(no_mangle)]
 pub extern "C" fn checker_find(text: &[u8], rows: &mut [u16; 4]) -> u64
     ensures answers { Answers text.now rows.old result rows.new }

@@ -11,8 +11,8 @@ use Rattle.meaning.specs.Context.{Context}
 use Rattle.meaning.specs.Rules.{Clause}
 use Rattle.listing.specs.declared.State.{State}
 use Rattle.listing.specs.Filling.{Runs, Pieces}
-use Rattle.channels.specs.declared.output.Sent.{Sent}
-use Rattle.channels.specs.Sending.{Carries}
+use Rattle.channels.specs.declared.output.Taken.{Taken}
+use Rattle.channels.specs.Sending.{Counts}
 
 abbrev pub piece_room : ℕ
 piece_room = 8192
@@ -21,10 +21,10 @@ pub data Heads (input : List ℕ) : List ℕ → Type 0 where
   alone : (line : List ℕ) → BreachesPrints narrow input line → Heads input line
   before : Heads input []
 
-pub record Gives (c : Context) (table : List ℕ) (k : Clause) (s : State) (sent : Sent) (next : State) : Type 0 where
+pub record Gives (c : Context) (table : List ℕ) (k : Clause) (s : State) (taken : Taken) (next : State) : Type 0 where
   pub bytes : List ℕ
   pub runs : Runs c table k piece_room s bytes next
-  pub carries : Carries bytes sent
+  pub counts : Counts bytes taken
 
 abbrev pub ListedFrom : Context → List ℕ → Clause → State → List ℕ → Type 0
 ListedFrom c table k s out = Pieces c table k (λ _. piece_room) 0 s out

@@ -1,6 +1,7 @@
 // Prints every breach made of representatives of the text on standard input and then the last line, or the refusal.
 #![tactic(auto)]
 
+ghost use Rattle.std.specs.Prelude.{IfOk};
 ghost use Rattle.meaning.specs.Text.{narrow};
 ghost use Rattle.meaning.specs.Listing.{BreachesPrints};
 ghost use Rattle.hunting.specs.Laid.{context_in, rule_in};
@@ -9,8 +10,8 @@ ghost use Rattle.channels.specs.Taking.{Read};
 ghost use Rattle.channels.specs.Sending.{Carries, Delivers};
 ghost use Rattle.breaches.specs.Giving.{piece_room, Heads, Gives, ListedFrom};
 
-use channels::input::{Got, input_space, take_input};
-use channels::output::{Sent, both, is_whole, nothing, put};
+use channels::input::{Unread, input_space, take_input};
+use channels::output::{Sent, Taken, Untaken, put};
 use channels::telling::{FAILED, report, tell};
 use hunting::{Laid, PAIRS, unknown};
 use listing::State;
@@ -18,14 +19,15 @@ use listing::State;
 // How many bytes a piece of the list has room for.
 const PIECE: usize = 8192;
 
-// What became of a piece, and where the list goes on.
+// What was taken of a piece, and where the list goes on.
 #[derive(Clone, Copy)]
 struct Given {
-    sent: Sent,
+    taken: Taken,
     next: State,
 }
 
 // Hands over what comes before the list.
+// Not shared with other programs: each says in its contract what its own run hands over.
 fn hand_head<'a>(rt: &(impl Print + Eprint), input: &'a [u8], line: &'a [u8]) -> Sent
     requires { Heads input.now line.now }
     ensures { Carries line.now result }
@@ -36,22 +38,26 @@ fn hand_head<'a>(rt: &(impl Print + Eprint), input: &'a [u8], line: &'a [u8]) ->
 // Hands over the lines from a state to the next.
 fn hand(rt: &(impl Print + Eprint), l: Laid, state: State, next: State, bytes: &[u8]) -> Sent
     requires { Runs (context_in l) l.table (rule_in l) piece_room state bytes.now next }
-    ensures { Gives (context_in l) l.table (rule_in l) state result next }
+    ensures { IfOk result (λ taken. Gives (context_in l) l.table (rule_in l) state taken next) }
 {
     put(rt, bytes)
 }
 
-fn piece(rt: &(impl Print + Eprint), l: Laid, known: &mut [u8; PAIRS], state: State) -> Given
+fn piece(
+    rt: &(impl Print + Eprint),
+    l: Laid,
+    known: &mut [u8; PAIRS],
+    state: State,
+) -> Result<Given, Untaken>
     requires { Lent l known.old }
-    ensures gives { Gives (context_in l) l.table (rule_in l) state result.sent result.next }
+    ensures gives { IfOk result (λ given. Gives (context_in l) l.table (rule_in l) state given.taken given.next) }
     ensures lent { Lent l known.new }
 {
     let mut space = [0u8; PIECE];
     let filled = listing::fill(l, known, state, &mut space);
-    let used = filled.used;
     let next = filled.next;
-    let sent = hand(rt, l, state, next, &space[..used]);
-    Given { sent, next }
+    let taken = hand(rt, l, state, next, &space[..filled.used])?;
+    Ok(Given { taken, next })
 }
 
 // Hands over the list from a state on, piece by piece, as long as each is taken.
@@ -59,45 +65,32 @@ fn list(rt: &(impl Print + Eprint), l: Laid, known: &mut [u8; PAIRS], from: Stat
     requires { Lent l known.old }
     ensures { Delivers (ListedFrom (context_in l) l.table (rule_in l) from) result }
 {
-    let mut sent = nothing();
+    let mut taken = Taken::nothing();
     let mut state = from;
-    while !listing::is_done(state) {
-        let given = piece(rt, l, known, state);
-        let more = given.sent;
-        sent = both(sent, more);
-        if !is_whole(sent) {
-            return sent;
-        }
-        let next = given.next;
-        state = next;
+    while !state.is_done() {
+        let given = piece(rt, l, known, state)?;
+        taken = taken.and(given.taken);
+        state = given.next;
     }
-    sent
+    Ok(taken)
 }
 
-fn answer(rt: &(impl Print + Eprint), got: Got, input: &[u8]) -> Sent
+fn answer(rt: &(impl Print + Eprint), got: Result<usize, Unread>, input: &[u8]) -> Sent
     requires { Read got input.now }
     ensures { Delivers (BreachesPrints narrow input.now) result }
 {
     let opened = listing::opening::open(input);
-    let line = opened.line;
-    let bytes = line.bytes;
-    let len = line.len;
-    let head = hand_head(rt, input, &bytes[..len]);
-    if !is_whole(head) {
-        return head;
-    }
-    let laid = opened.laid;
-    let state = opened.state;
+    let head = hand_head(rt, input, opened.line.as_bytes())?;
     let mut known = unknown();
-    let rest = list(rt, laid, &mut known, state);
-    both(head, rest)
+    let rest = list(rt, opened.laid, &mut known, opened.state)?;
+    Ok(head.and(rest))
 }
 
 fn main(rt: HostRuntime) {
     let mut input = input_space();
     let got = take_input(&rt, &mut input);
     match got {
-        Got::Bytes(n) => report(&rt, answer(&rt, got, &input[..n])),
-        Got::Failed => tell(&rt, FAILED),
+        Ok(n) => report(&rt, answer(&rt, got, &input[..n])),
+        Err(_) => tell(&rt, FAILED),
     }
 }

@@ -1,5 +1,4 @@
 -- The root of the definitions.
-pub mod Moves
 pub mod Taking
 pub mod Sending
 pub mod Telling

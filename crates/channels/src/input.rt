@@ -1,13 +1,14 @@
 // Standard input.
-ghost use Rattle.std.specs.Prelude.{◌≡◌, suc, ◌-◌, ◌≤◌, length, replicate};
+ghost use Rattle.std.specs.Prelude.{◌≡◌, ◌≢◌, suc, ◌<◌, ◌≤◌, length, take, replicate, IfOk, IfErr};
+ghost use Rattle.std.specs.IoError.{error_kind};
+ghost use Rattle.std.specs.Io.KnownBytes.{Consumes, IsAtEnd};
 ghost use Rattle.meaning.specs.Replies.{input_limit};
-ghost use Rattle.channels.specs.Moves.{Moves};
-ghost use Rattle.channels.specs.Taking.{piece_space, end_of, Takes};
+ghost use Rattle.channels.specs.Taking.{piece_space, Takes};
 
-use crate::moves::{Move, read_once};
 use crate::saying::{say, say_failure};
 use replies::INPUT_LIMIT;
-use std::io::Read;
+use std::io;
+use std::io::{ErrorKind, Read};
 
 // One byte more than a program takes, so that an input that is too long is known.
 pub const INPUT_SPACE: usize = INPUT_LIMIT + 1;
@@ -15,12 +16,9 @@ pub const INPUT_SPACE: usize = INPUT_LIMIT + 1;
 // What an input without a limit is taken in by.
 pub const PIECE_SPACE: usize = 8192;
 
-// How many bytes were read into a space, fewer than it has where the input ended; or the read failed, which was said on standard error.
-#[derive(Clone, Copy)]
-pub enum Got {
-    Bytes(usize),
-    Failed,
-}
+// The input could not be read, which was said on standard error.
+#[derive(Clone, Copy, PartialEq, Eq, Debug)]
+pub struct Unread;
 
 pub fn input_space() -> [u8; INPUT_SPACE]
     ensures zeros { result ≡ replicate (suc input_limit) 0 }
@@ -34,78 +32,60 @@ pub fn piece_space() -> [u8; PIECE_SPACE]
     [0; PIECE_SPACE]
 }
 
-// What an answer that moved nothing says of the input: that it ended, or that it could not be read.
-fn ended(moved: Move, done: usize) -> Got
-    ensures { result ≡ end_of moved done }
-{
-    match moved {
-        Move::End => Got::Bytes(done),
-        Move::Bytes(_) => Got::Failed,
-        Move::Again => Got::Failed,
-        Move::Left => Got::Failed,
-        Move::Failed => Got::Failed,
-    }
-}
-
-// Reads once, into the space that is left behind the bytes that were read.
-fn read_on<R: Read>(reader: &mut R, space: &mut [u8], done: usize, error: &mut i32) -> Move
-    requires { done ≤ length space.old }
-    ensures { Moves result (length space.old - done) }
-{
-    read_once(reader, &mut space[done..], error)
-}
-
-// Reads until the space is full or the input ends. A read that a signal interrupted is tried again; nothing says that this ends, so the tries
-// are counted down from a number that no run uses up. The number of the last error is kept.
-fn fill<R: Read>(reader: &mut R, space: &mut [u8], error: &mut i32) -> Got
-    ensures { Takes result space.new }
+// Reads until the space is full or the input ends, and answers how many bytes were read. A read that a signal interrupted is tried again; nothing
+// says that this ends, so the turns are counted by a number that no run uses up.
+fn fill<R: Read>(reader: &mut R, space: &mut [u8]) -> io::Result<usize>
+    ensures within { IfOk result (λ n. n ≤ length space.new) }
+    ensures bytes { IfOk result (λ n. Consumes (R.remaining reader.old) (R.remaining reader.new) (take n space.new)) }
+    ensures end { IfOk result (λ n. n < length space.new → IsAtEnd (R.remaining reader.new)) }
+    ensures retried { IfErr result (λ e. error_kind e ≢ ErrorKind.Interrupted) }
 {
     let mut done = 0;
-    let mut tries = usize::MAX;
-    while done < space.len() {
-        let moved = read_on(reader, space, done, error);
-        match moved {
-            Move::Bytes(n) => done += n,
-            Move::Again => {
-                if tries == 0 {
-                    return Got::Failed;
-                }
-                tries -= 1;
-            }
-            _ => return ended(moved, done),
+    for _ in 0..u64::MAX {
+        if done == space.len() {
+            return Ok(done);
+        }
+        match reader.read(&mut space[done..]) {
+            Ok(0) => return Ok(done),
+            Ok(n) => done += n,
+            Err(e) if e.kind() == ErrorKind::Interrupted => {}
+            Err(e) => return Err(e),
         }
     }
-    Got::Bytes(done)
+    Err(ErrorKind::TimedOut.into())
 }
 
-// Says a failure on standard error.
-fn said(rt: &impl Eprint, got: Got, error: i32) -> Got
-    ensures { result ≡ got }
+fn take(rt: &(impl Input + Eprint), space: &mut [u8]) -> Result<usize, Unread>
+    ensures { Takes result space.new }
 {
-    if let Got::Failed = got {
-        say_failure(rt, "standard input", error);
+    match fill(&mut rt.reader(), space) {
+        Ok(n) => Ok(n),
+        Err(e) => {
+            say_failure(rt, "standard input", &e);
+            Err(Unread)
+        }
     }
-    got
 }
 
 // Reads the input, as far as there is space.
-pub fn take_input(rt: &(impl Input + Eprint), space: &mut [u8; INPUT_SPACE]) -> Got
+// Beside take_piece: programs and pages name both, and each names its space.
+pub fn take_input(
+    rt: &(impl Input + Eprint),
+    space: &mut [u8; INPUT_SPACE],
+) -> Result<usize, Unread>
     ensures takes { Takes result space.new }
 {
-    let mut reader = rt.reader();
-    let mut error = 0;
-    let got = fill(&mut reader, space, &mut error);
-    said(rt, got, error)
+    take(rt, space)
 }
 
 // Reads what comes next of the input, as far as there is space.
-pub fn take_piece(rt: &(impl Input + Eprint), space: &mut [u8; PIECE_SPACE]) -> Got
+pub fn take_piece(
+    rt: &(impl Input + Eprint),
+    space: &mut [u8; PIECE_SPACE],
+) -> Result<usize, Unread>
     ensures takes { Takes result space.new }
 {
-    let mut reader = rt.reader();
-    let mut error = 0;
-    let got = fill(&mut reader, space, &mut error);
-    said(rt, got, error)
+    take(rt, space)
 }
 
 // Says on standard error that an input came to no end in as many pieces as can be counted.

@@ -2,7 +2,6 @@
 #![tactic(auto)]
 
 pub mod input;
-mod moves;
 pub mod output;
 mod saying;
 pub mod telling;

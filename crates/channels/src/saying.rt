@@ -6,8 +6,7 @@ pub(crate) fn say(rt: &impl Eprint, line: &str) {
     let _ = eprintln!(rt; "{line}");
 }
 
-// Says what failed, and why, by the number of the error.
-pub(crate) fn say_failure(rt: &impl Eprint, what: &str, error: i32) {
-    let why = Error::from_raw_os_error(error);
+// Says what failed, and why.
+pub(crate) fn say_failure(rt: &impl Eprint, what: &str, why: &Error) {
     let _ = eprintln!(rt; "{what}: {why}");
 }

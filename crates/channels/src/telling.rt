@@ -2,17 +2,10 @@
 ghost use Rattle.std.specs.Prelude.{◌≡◌};
 ghost use Rattle.channels.specs.Telling.{place_of, status_of};
 
-use crate::output::{Fate, Sent, send};
+use crate::output::{Sent, Stop, send};
 use std::fs;
 use std::fs::OpenOptions;
 use std::rt::{Env, Files};
-
-// A descriptor, or none.
-#[derive(Clone, Copy)]
-pub enum Place {
-    At(i32),
-    Nowhere,
-}
 
 // The run gave its reply, or nobody reads it any more.
 pub const REPLIED: u8 = b'0';
@@ -21,16 +14,13 @@ pub const REPLIED: u8 = b'0';
 pub const FAILED: u8 = b'1';
 
 // A digit from 3 to 9 names a descriptor.
-fn named(digit: u8) -> Place
+fn named(digit: u8) -> Option<i32>
     ensures { result ≡ place_of digit }
 {
-    if digit < b'3' {
-        return Place::Nowhere;
+    match digit {
+        b'3'..=b'9' => Some(i32::from(digit - b'0')),
+        _ => None,
     }
-    if digit > b'9' {
-        return Place::Nowhere;
-    }
-    Place::At((digit - b'0') as i32)
 }
 
 // The file that a descriptor from 3 to 9 is, by its name in the system.
@@ -65,34 +55,29 @@ fn tell_on(rt: &impl Files, fd: i32, status: u8) {
         return;
     }
     if let Ok(mut file) = OpenOptions::new().read(true).append(true).open(rt, path) {
-        let mut error = 0;
-        send(&mut file, &[status], &mut error);
+        let _ = send(&mut file, &[status]);
     }
 }
 
 // Says a status.
 pub fn tell(rt: &(impl Env + Files), status: u8) {
     let mut word = [0u8; 1];
-    let Ok(n) = rt.arg(1, &mut word) else {
-        return;
-    };
-    if n != 1 {
-        return;
-    }
-    let place = named(word[0]);
-    if let Place::At(fd) = place {
+    if let Ok(1) = rt.arg(1, &mut word)
+        && let Some(fd) = named(word[0])
+    {
         tell_on(rt, fd, status);
     }
 }
 
 fn status(s: Sent) -> u8
-    ensures { result ≡ status_of s.fate }
+    ensures { result ≡ status_of s }
 {
-    let fate = s.fate;
-    match fate {
-        Fate::Whole => REPLIED,
-        Fate::Left => REPLIED,
-        Fate::Failed => FAILED,
+    match s {
+        Ok(_) => REPLIED,
+        Err(e) => match e.why {
+            Stop::Left => REPLIED,
+            Stop::Failed => FAILED,
+        },
     }
 }
 

@@ -21,8 +21,7 @@ use Rattle.meaning.proofs.Promised.{representatives-one, promise-one}
 use Rattle.classes.specs.declared.Answer.{Answer}
 use Rattle.classes.specs.declared.Answer.TheVariants.{Closed, Unfit}
 use Rattle.classes.specs.declared.Classes.{Classes}
-use Rattle.classes.specs.declared.Contradiction.{Contradiction}
-use Rattle.classes.specs.declared.Contradiction.TheVariants.{First, Clear}
+use Rattle.std.specs.Prelude.{Option, Some, None}
 use Rattle.runs.specs.Runs.{said_count, statements_of, context_of}
 use Rattle.runs.specs.Fit.{FitContext}
 use Rattle.classes.specs.Claims.{Own, Closes, clashing}
@@ -57,11 +56,11 @@ widths-agree w v c t u p q i h l = go (ltb i (length c.rows)) refl
     go true e = representatives-one c (rep_at t) (rep_at u) p.rows q.rows i (ltb-true i (length c.rows) e)
     go false e = p.others i (ltb-false i (length c.rows) e) h ∙ sym (q.others i (ltb-false i (length c.rows) e) l)
 
-pub clash-one : (r s : Contradiction) (x : Clashing) → clashing r ≡ x → clashing s ≡ x → r ≡ s
-clash-one (First n) (First k) x p q = cc
-clash-one (First n) Clear x p q = absurd (let z : ◌≡◌ {A = ℕ} 0 1 = cc in omega arith)
-clash-one Clear (First k) x p q = absurd (let z : ◌≡◌ {A = ℕ} 0 1 = cc in omega arith)
-clash-one Clear Clear x p q = refl
+pub clash-one : (r s : Option ℕ) (x : Clashing) → clashing r ≡ x → clashing s ≡ x → r ≡ s
+clash-one (Some n) (Some k) x p q = cc
+clash-one (Some n) None x p q = absurd (let z : ◌≡◌ {A = ℕ} 0 1 = cc in omega arith)
+clash-one None (Some k) x p q = absurd (let z : ◌≡◌ {A = ℕ} 0 1 = cc in omega arith)
+clash-one None None x p q = refl
 
 pub apart-one : (r s x : Bool) → r ≡ x → s ≡ x → r ≡ s
 apart-one r s x p q = p ∙ sym q

@@ -9,13 +9,14 @@ use mathlib.Core.Bool.{Bool, true, false}
 use mathlib.Core.List.{List, map}
 use mathlib.Core.Path.{◌≡◌, refl, ap, sym, ◌∙◌, subst}
 use mathlib.Core.Logic.{◌⊎◌, inl, inr, ⊎_elim}
-use Prim.Native.Nat.{ℕ, zero, suc, ◌+◌, ◌-◌, ◌≤◌, ◌<◌}
+use Prim.Native.Nat.{ℕ, suc, ◌+◌, ◌≤◌, ◌<◌}
 use native.Mathlib.Omega.{arith}
 use lib.Dec.{eqb, ltb}
 use lib.ListN.{length, get_or, set, replicate, length-set, get_or-replicate}
 use lib.Seq.{get_or-set_same, get_or-set_other}
 use borrow.Author.Rules.{rules}
 use borrow.Author.Tests.{eqb-true, eqb-false, eq-eqb, ltb-true, ltb-false}
+use Rattle.std.specs.Prelude.{Option, Some, None}
 use Rattle.runs.specs.Limits.{most_rows}
 use Rattle.meaning.specs.Context.{Row, row_at}
 use Rattle.meaning.specs.Equality.{rep_at}
@@ -27,7 +28,7 @@ use Rattle.meaning.proofs.Lists.{same_list-true, same_list-self}
 use Rattle.meaning.proofs.Closes.{agree-equal}
 use Rattle.runs.specs.Runs.{row_count, rows_of}
 use Rattle.runs.proofs.Saying.{length-rows}
-use Rattle.classes.specs.Steps.{chains, Laid, merge, key_of, Last, Nexts, Mate, merge_at, Joined, Bounded, Visited, Kept, Outcome, Alike, Passed}
+use Rattle.classes.specs.Steps.{chains, Laid, merge, key_of, link_of, Last, Nexts, Mate, merge_at, Joined, Bounded, Visited, Kept, Outcome, Alike, Passed}
 use Rattle.classes.proofs.Rows.{mix-below}
 use Rattle.classes.proofs.Merges.{outcome-none, outcome-then, merge-outcome}
 
@@ -58,71 +59,79 @@ key_below rows l i = mix-below _ (map (rep_at l) (row_at rows i).args) (omega ar
 -- ---- the search along a chain
 
 -- the rows on the chain from at on are to be searched, and those passed do not agree with row i
-pub record Seeking (rows : List Row) (l next : List ℕ) (i head at : ℕ) : Type 0 where
-  pub bound : at ≤ i
+pub record Seeking (rows : List Row) (l next : List ℕ) (i head : ℕ) (at : Option ℕ) : Type 0 where
+  pub bound : link_of at ≤ i
   pub links : (j : ℕ) → j < i → get_or next j 0 ≤ j
   pub far : (key : ℕ → ℕ) → Nexts key next i → Last key i (key i) head
-      → ((j : ℕ) → at ≤ j → j < i → key j ≡ key i → agree rows l i j ≡ false) × ((p : ℕ) → at ≡ suc p → key p ≡ key i)
+      → ((j : ℕ) → link_of at ≤ j → j < i → key j ≡ key i → agree rows l i j ≡ false) × ((p : ℕ) → at ≡ Some p → key p ≡ key i)
 
-pub seeking-start : (rows : List Row) (l next : List ℕ) (i head : ℕ) → head ≤ i → ((j : ℕ) → j < i → get_or next j 0 ≤ j) → Seeking rows l next i head head
-seeking-start rows l next i head h links =
-    record { bound = h; links = links; far = λ key nexts last. (λ j a b e. absurd (last.passed j a b e), last.holds) }
-
-pub seeking-next : {rows : List Row} {l next : List ℕ} {i head at x : ℕ} {r : Bool} → Seeking rows l next i head at → 0 < at
-    → r ≡ agree rows l i (at - 1) → r ≡ false → x ≡ get_or next (at - 1) 0 → Seeking rows l next i head x
-seeking-next {rows} {l} {next} {i} {head} {at} {x} {r} s h e f q =
-    record { bound = omega (arith, s.links (at - 1) (omega (arith, s.bound)), s.bound); links = s.links; far = λ key nexts last. go key nexts (s.far key nexts last) }
-  where
-    p : ℕ
-    p = at - 1
-
-    at_p : at ≡ suc p
-    at_p = omega arith
-
-    go : (key : ℕ → ℕ) → Nexts key next i
-        → (((j : ℕ) → at ≤ j → j < i → key j ≡ key i → agree rows l i j ≡ false) × ((k : ℕ) → at ≡ suc k → key k ≡ key i))
-        → ((j : ℕ) → x ≤ j → j < i → key j ≡ key i → agree rows l i j ≡ false) × ((k : ℕ) → x ≡ suc k → key k ≡ key i)
-    go key nexts far = (λ j a b t. cases j a b t (ltb j p) refl (eqb j p) refl, λ k t. link.holds k (sym q ∙ t) ∙ far.1 p at_p)
-      where
-        link : Last key p (key p) (get_or next p 0)
-        link = nexts p (omega (arith, s.bound))
-
-        cases : (j : ℕ) → x ≤ j → j < i → key j ≡ key i → (b : Bool) → ltb j p ≡ b → (c : Bool) → eqb j p ≡ c → agree rows l i j ≡ false
-        cases j a b t true u c v = absurd (link.passed j (omega arith) (ltb-true j p u) (t ∙ sym (far.1 p at_p)))
-        cases j a b t false u true v = rw (eqb-true j p v) (sym e ∙ f)
-        cases j a b t false u false v = far.0 j (omega (arith, ltb-false j p u, eqb-false j p v)) b t
-
-pub seeking-less : {rows : List Row} {l next : List ℕ} {i head at x : ℕ} → Seeking rows l next i head at → 0 < at → x ≡ get_or next (at - 1) 0 → x < at
-seeking-less {rows} {l} {next} {i} {head} {at} {x} s h q = omega (arith, s.links (at - 1) (omega (arith, s.bound)))
-
-pub seeking-found : {rows : List Row} {l next : List ℕ} {i head at : ℕ} {r : Bool} → Seeking rows l next i head at → 0 < at
-    → r ≡ agree rows l i (at - 1) → r ≡ true → Mate rows l next i head at
-seeking-found {rows} {l} {next} {i} {head} {at} {r} s h e f =
+pub seeking-start : (rows : List Row) (l next : List ℕ) (i head : ℕ) (at : Option ℕ) → link_of at ≡ head → head ≤ i
+    → ((j : ℕ) → j < i → get_or next j 0 ≤ j) → Seeking rows l next i head at
+unfolding link_of
+seeking-start rows l next i head at e h links =
     record {
-      bound = s.bound;
-      agrees = λ p q. subst (λ (x : ℕ). agree rows l i x ≡ true) (omega arith) (sym e ∙ f);
-      none = λ key nexts last z. absurd (omega arith);
+      bound = omega (arith, e);
+      links = links;
+      far = λ key nexts last. (λ j a b t. absurd (last.passed j (omega (arith, e)) b t), λ p q. last.holds p (sym e ∙ ap link_of q));
     }
 
-pub seeking-done : {rows : List Row} {l next : List ℕ} {i head at : ℕ} → Seeking rows l next i head at → at ≤ 0 → Mate rows l next i head 0
-seeking-done {rows} {l} {next} {i} {head} {at} s h =
+module _ {rows : List Row} {l next : List ℕ} {i head : ℕ} {at : Option ℕ} {j : ℕ} (s : Seeking rows l next i head at) (so : at ≡ Some j) where
+  link-is : link_of at ≡ suc j
+  unfolding link_of
+  link-is = ap link_of so
+
+  pub seeking-inside : j < i
+  seeking-inside = omega (arith, link-is, s.bound)
+
+  pub seeking-next : {x : Option ℕ} {r : Bool} → r ≡ agree rows l i j → r ≡ false → link_of x ≡ get_or next j 0 → Seeking rows l next i head x
+  unfolding link_of
+  seeking-next {x} {r} e f q =
+      record { bound = omega (arith, s.links j seeking-inside, seeking-inside, q); links = s.links; far = λ key nexts last. go key nexts (s.far key nexts last) }
+    where
+      go : (key : ℕ → ℕ) → Nexts key next i
+          → (((k : ℕ) → link_of at ≤ k → k < i → key k ≡ key i → agree rows l i k ≡ false) × ((k : ℕ) → at ≡ Some k → key k ≡ key i))
+          → ((k : ℕ) → link_of x ≤ k → k < i → key k ≡ key i → agree rows l i k ≡ false) × ((k : ℕ) → x ≡ Some k → key k ≡ key i)
+      go key nexts far = (λ k a b t. cases k a b t (ltb k j) refl (eqb k j) refl, λ k t. link.holds k (sym q ∙ ap link_of t) ∙ far.1 j so)
+        where
+          link : Last key j (key j) (get_or next j 0)
+          link = nexts j seeking-inside
+
+          cases : (k : ℕ) → link_of x ≤ k → k < i → key k ≡ key i → (b : Bool) → ltb k j ≡ b → (c : Bool) → eqb k j ≡ c → agree rows l i k ≡ false
+          cases k a b t true u c v = absurd (link.passed k (omega (arith, q)) (ltb-true k j u) (t ∙ sym (far.1 j so)))
+          cases k a b t false u true v = rw (eqb-true k j v) (sym e ∙ f)
+          cases k a b t false u false v = far.0 k (omega (arith, link-is, ltb-false k j u, eqb-false k j v)) b t
+
+  pub seeking-less : (x : Option ℕ) → link_of x ≡ get_or next j 0 → link_of x < link_of at
+  seeking-less x q = omega (arith, s.links j seeking-inside, link-is, q)
+
+  pub seeking-found : {r : Bool} → r ≡ agree rows l i j → r ≡ true → Mate rows l next i head (Some j)
+  seeking-found {r} e f =
+      record {
+        bound = λ p q. let z : j ≡ p = same p q in omega (arith, seeking-inside);
+        agrees = λ p q. subst (λ (x : ℕ). agree rows l i x ≡ true) (same p q) (sym e ∙ f);
+        none = λ key nexts last z. absurd (let w : ◌≡◌ {A = ℕ} 0 1 = cc in omega arith);
+      }
+    where
+      same : (p : ℕ) → Some j ≡ Some p → j ≡ p
+      same p q = cc
+
+pub seeking-done : {rows : List Row} {l next : List ℕ} {i head : ℕ} {at : Option ℕ} → Seeking rows l next i head at → at ≡ None → Mate rows l next i head None
+unfolding link_of
+seeking-done {rows} {l} {next} {i} {head} {at} s e =
+    let end : link_of at ≡ 0 = ap link_of e in
     record {
-      bound = omega arith;
-      agrees = λ p q. absurd (omega arith);
+      bound = λ p q. absurd (let w : ◌≡◌ {A = ℕ} 0 1 = cc in omega arith);
+      agrees = λ p q. absurd (let w : ◌≡◌ {A = ℕ} 0 1 = cc in omega arith);
       none = λ key nexts last z j b t. (s.far key nexts last).0 j (omega arith) b t;
     }
 
 -- ---- a row and its mate
-pub joined-none : (rows : List Row) (next : List ℕ) (i head at : ℕ) (l : List ℕ) → Mate rows l next i head at → at ≤ 0 → Joined rows next i head l l
-joined-none rows next i head at l m h =
-    let e : at ≡ 0 = omega arith in
-    record { at = at; mate = m; so = sym (ap (λ (x : ℕ). merge_at i x l) e) }
+pub joined-none : (rows : List Row) (next : List ℕ) (i head : ℕ) (at : Option ℕ) (l : List ℕ) → Mate rows l next i head at → at ≡ None → Joined rows next i head l l
+joined-none rows next i head at l m e = record { at = at; mate = m; so = sym (ap (λ (x : Option ℕ). merge_at i x l) e) }
 
-pub joined-mate : (rows : List Row) (next : List ℕ) (i head at : ℕ) (l n : List ℕ) → Mate rows l next i head at → 0 < at → n ≡ merge i (at - 1) l
-    → Joined rows next i head l n
-joined-mate rows next i head at l n m h e =
-    let q : at ≡ suc (at - 1) = omega arith in
-    record { at = at; mate = m; so = e ∙ sym (ap (λ (x : ℕ). merge_at i x l) q) }
+pub joined-mate : (rows : List Row) (next : List ℕ) (i head : ℕ) (at : Option ℕ) (j : ℕ) (l n : List ℕ) → Mate rows l next i head at → at ≡ Some j
+    → n ≡ merge i j l → Joined rows next i head l n
+joined-mate rows next i head at j l n m q e = record { at = at; mate = m; so = e ∙ sym (ap (λ (x : Option ℕ). merge_at i x l) q) }
 
 -- ---- one row of the pass
 
@@ -226,17 +235,17 @@ module _ {heads next : List ℕ} {n : ℕ} (bounded : Bounded heads next n) (roo
           later j a l q true u = w.0 (sym q ∙ ap key (eqb-true j n u) ∙ sym e)
           later j a l q false u = (k.lasts c h).passed j a (omega (arith, eqb-false j n u)) q
 
-module _ (rows : List Row) (l next : List ℕ) (i head at : ℕ) (mate : Mate rows l next i head at) (last : Last (key_of rows l) i (key_of rows l i) head)
-    (nexts : Nexts (key_of rows l) next i) (alike : Alike rows i l) (one : (p : ℕ) → at ≡ suc p → rep_at l i ≡ rep_at l p) where
+module _ (rows : List Row) (l next : List ℕ) (i head : ℕ) (at : Option ℕ) (mate : Mate rows l next i head at) (last : Last (key_of rows l) i (key_of rows l i) head)
+    (nexts : Nexts (key_of rows l) next i) (alike : Alike rows i l) (one : (p : ℕ) → at ≡ Some p → rep_at l i ≡ rep_at l p) where
   -- row i and an earlier row that agrees with it have one representative
   alike-mate : (j : ℕ) → j < i → SameAt rows l i j → rep_at l i ≡ rep_at l j
   alike-mate j h s = go at refl
     where
-      go : (a : ℕ) → at ≡ a → rep_at l i ≡ rep_at l j
-      go zero e = false-true (same-agree rows l i j s) (mate.none (key_of rows l) nexts last e j h (same_key_lem rows l i j s))
-      go (suc p) e =
+      go : (a : Option ℕ) → at ≡ a → rep_at l i ≡ rep_at l j
+      go None e = false-true (same-agree rows l i j s) (mate.none (key_of rows l) nexts last e j h (same_key_lem rows l i j s))
+      go (Some p) e =
           let w : SameAt rows l i p = agree-true rows l i p (mate.agrees p e) in
-          one p e ∙ alike p j (omega (arith, mate.bound)) h (sym w.0 ∙ s.0) (sym w.1 ∙ s.1)
+          one p e ∙ alike p j (mate.bound p e) h (sym w.0 ∙ s.0) (sym w.1 ∙ s.1)
 
   alike_next : Alike rows (i + 1) l
   alike_next a b ha hb e f = go (eqb a i) refl (eqb b i) refl
@@ -298,30 +307,30 @@ module _ {run : List ℕ} {n : ℕ} {l t heads next : List ℕ} {i : ℕ} (s : P
       inside = omega (arith, length-rows run, s.count)
 
       -- what one row does to the table as it is
-      row : (eqs : List (ℕ × ℕ)) → Ordered R → Kept R eqs t → Outcome R eqs ((p : ℕ) → joined.at ≡ suc p → rep_at t i ≡ rep_at t p) t u
+      row : (eqs : List (ℕ × ℕ)) → Ordered R → Kept R eqs t → Outcome R eqs ((p : ℕ) → joined.at ≡ Some p → rep_at t i ≡ rep_at t p) t u
       row eqs ordered kept = rw joined.so (go joined.at refl)
         where
-          go : (a : ℕ) → joined.at ≡ a → Outcome R eqs ((p : ℕ) → joined.at ≡ suc p → rep_at t i ≡ rep_at t p) t (merge_at i joined.at t)
-          go zero y = rw y (outcome-none R eqs kept (λ p q. absurd (omega arith)))
-          go (suc p) y =
+          go : (a : Option ℕ) → joined.at ≡ a → Outcome R eqs ((p : ℕ) → joined.at ≡ Some p → rep_at t i ≡ rep_at t p) t (merge_at i joined.at t)
+          go None y = rw y (outcome-none R eqs kept (λ p q. absurd (let z : ◌≡◌ {A = ℕ} 0 1 = cc in omega arith)))
+          go (Some p) y =
               let w : SameAt R t i p = agree-true R t i p (joined.mate.agrees p y) in
-              let hp : p < length R = omega (arith, joined.mate.bound, inside) in
+              let hp : p < length R = omega (arith, joined.mate.bound p y, inside) in
               let o : Outcome R eqs (rep_at t i ≡ rep_at t p) t (merge i p t) =
               merge-outcome R eqs t kept i p inside hp (agree-equal R eqs ordered (rep_at t) kept.so i p inside hp w.0 w.1) in
               rw y
-              (record { kept = o.kept; grown = o.grown; did = ⊎_elim (λ d. inl (d.0, λ q x. d.1 ∙ ap (rep_at t) (omega arith))) (λ d. inr d) o.did })
+              (record { kept = o.kept; grown = o.grown; did = ⊎_elim (λ d. inl (d.0, λ q x. let z : p ≡ q = cc in d.1 ∙ ap (rep_at t) z)) (λ d. inr d) o.did })
 
       after : (eqs : List (ℕ × ℕ)) → Ordered R → Outcome R eqs (Alike R i l × Linked (key_of R l) heads next i) l t
           → Outcome R eqs (Alike R (i + 1) l × Linked (key_of R l) (set heads b (i + 1)) (set next i (get_or heads b 0)) (i + 1)) l u
       after eqs ordered o = outcome-then R eqs o (row eqs ordered o.kept) close
         where
-          close : t ≡ l → Alike R i l × Linked (key_of R l) heads next i → ((p : ℕ) → joined.at ≡ suc p → rep_at t i ≡ rep_at t p)
+          close : t ≡ l → Alike R i l × Linked (key_of R l) heads next i → ((p : ℕ) → joined.at ≡ Some p → rep_at t i ≡ rep_at t p)
               → Alike R (i + 1) l × Linked (key_of R l) (set heads b (i + 1)) (set next i (get_or heads b 0)) (i + 1)
           close same old one =
               let k : b ≡ key_of R l i = e ∙ ap (λ (x : List ℕ). key_of R x i) same in
               let last : Last (key_of R l) i (key_of R l i) h = rw (eh, ← k) (old.1.lasts b small) in (
                 alike_next R l next i h joined.at (subst (λ (x : List ℕ). Mate R x next i h joined.at) same joined.mate) last old.1.nexts old.0
-                    (subst (λ (x : List ℕ). (p : ℕ) → joined.at ≡ suc p → rep_at x i ≡ rep_at x p) same one),
+                    (subst (λ (x : List ℕ). (p : ℕ) → joined.at ≡ Some p → rep_at x i ≡ rep_at x p) same one),
                 linked-next s.bounded (omega (arith, s.room)) b small (key_of R l) k old.1,
               )
 
@@ -344,6 +353,7 @@ module _ {run : List ℕ} {n : ℕ} {l t heads next : List ℕ} {i : ℕ} (s : P
 pub ruleset mine = (
   rules,
   seeking-start,
+  seeking-inside,
   seeking-next,
   seeking-less,
   seeking-found,

@@ -2,7 +2,8 @@
 --     Clearing, Parting    the loops: no clash so far; not kept apart so far
 --     mine                 what `clash`, `apart` and the functions below them leave to show
 -- Assumes nothing.
-use mathlib.Core.Bool.{Bool, true, false, ◌&&◌, ◌||◌}
+use mathlib.Core.Bool.{Bool, true, false, not, ◌&&◌, ◌||◌}
+use mathlib.Core.Logic.{◌⊎◌, inl, inr}
 use mathlib.Core.List.{List, [], ◌∷◌, ◌++◌}
 use mathlib.Core.Path.{◌≡◌, refl, ap, ap₂, sym, ◌∙◌, subst}
 use Prim.Native.Nat.{ℕ, zero, suc, ◌+◌, ◌≤◌, ◌<◌}
@@ -30,13 +31,13 @@ module _ (said t : List ℕ) (k c : ℕ) (ec : c ≡ kind_in said k) where
   unfolding difference_at
   difference-one n = rw (ne_eqb (kind_in said k) 2 (λ z. n (ec ∙ z)), difference_at)
 
-  pub clash-equation : c ≡ 2 → false ≡ clash_at said t k
+  pub clash-equation : c ≡ 2 → not (eqb c 2) ≡ clash_at said t k
   unfolding clash_at
-  clash-equation e = rw (eq-eqb (kind_in said k) 2 (sym ec ∙ e))
+  clash-equation e = rw (eq-eqb c 2 e, eq-eqb (kind_in said k) 2 (sym ec ∙ e))
 
-  pub apart-equation : (a b : ℕ) → c ≡ 2 → false ≡ apart_at said t k a b
+  pub apart-equation : (a b : ℕ) → c ≡ 2 → not (eqb c 2) ≡ apart_at said t k a b
   unfolding apart_at
-  apart-equation a b e = rw (eq-eqb (kind_in said k) 2 (sym ec ∙ e))
+  apart-equation a b e = rw (eq-eqb c 2 e, eq-eqb (kind_in said k) 2 (sym ec ∙ e))
 
   module _ (n : c ≡ 2 → ⊥) (x y p q : ℕ) (ex : x ≡ left_in said k) (ey : y ≡ right_in said k) (ep : p ≡ rep_at t x) (eq : q ≡ rep_at t y) where
     pub clash-sides : eqb p q ≡ clash_at said t k
@@ -49,21 +50,36 @@ module _ (said t : List ℕ) (k c : ℕ) (ec : c ≡ kind_in said k) where
         rw (ne_eqb (kind_in said k) 2 (λ z. n (ec ∙ z)))
         (e ∙ ap₂ (λ (u v : ℕ). either_same a b u v) (ep ∙ ap (rep_at t) ex) (eq ∙ ap (rep_at t) ey))
 
-pub both-none : (a b p q : ℕ) → (a ≡ p → ⊥) → false ≡ both_same a b p q
+-- ---- two classes, in either order
+
+both-none : (a b p q : ℕ) → (a ≡ p → ⊥) → false ≡ both_same a b p q
 unfolding both_same
 both-none a b p q n = rw (ne_eqb a p n)
 
-pub both-last : (a b p q : ℕ) → a ≡ p → eqb b q ≡ both_same a b p q
+both-last : (a b p q : ℕ) → a ≡ p → eqb b q ≡ both_same a b p q
 unfolding both_same
 both-last a b p q e = rw (eq-eqb a p e)
 
-pub either_left : (a b p q : ℕ) (r : Bool) → r ≡ both_same a b p q → r ≡ true → true ≡ either_same a b p q
-unfolding either_same
-either_left a b p q r e t = sym (or_left (both_same a b p q) (both_same b a p q) (sym e ∙ t))
+module _ (a b p q : ℕ) where
+  pub either-first : (r : Bool) → r ≡ eqb b q → a ≡ p → b ≡ q → r ≡ either_same a b p q
+  unfolding either_same
+  either-first r er e f = er ∙ eq-eqb b q f ∙ sym (or_left (both_same a b p q) (both_same b a p q) (sym (both-last a b p q e) ∙ eq-eqb b q f))
 
-pub either-right : (a b p q : ℕ) (r s : Bool) → r ≡ both_same a b p q → r ≡ false → s ≡ both_same b a p q → s ≡ either_same a b p q
-unfolding either_same
-either-right a b p q r s e t f = let z : both_same a b p q ≡ false = sym e ∙ t in rw z f
+  module _ (n : ((a ≡ p) × (b ≡ q → ⊥)) ⊎ (a ≡ p → ⊥)) where
+    not-first : both_same a b p q ≡ false
+    not-first = go n
+      where
+        go : ((a ≡ p) × (b ≡ q → ⊥)) ⊎ (a ≡ p → ⊥) → both_same a b p q ≡ false
+        go (inl w) = sym (both-last a b p q w.0) ∙ ne_eqb b q w.1
+        go (inr w) = sym (both-none a b p q w)
+
+    pub either-second : b ≡ p → eqb a q ≡ either_same a b p q
+    unfolding either_same
+    either-second e = rw not-first (both-last b a p q e)
+
+    pub either-neither : (b ≡ p → ⊥) → eqb b p ≡ either_same a b p q
+    unfolding either_same
+    either-neither m = rw (not-first, ne_eqb b p m) (both-none b a p q m)
 
 -- ---- lists of differences
 
@@ -259,10 +275,9 @@ pub ruleset mine = (
   clash-sides,
   apart-equation,
   apart-sides,
-  both-none,
-  both-last,
-  either_left,
-  either-right,
+  either-first,
+  either-second,
+  either-neither,
   clearing-start,
   clearing-next,
   clearing-found,

@@ -105,9 +105,9 @@ module _ {run t : List ℕ} {i j count k : ℕ} (g : Agreeing run t i j count k)
 -- ---- two rows compared
 
 module _ (run : List ℕ) (i j p q : ℕ) (ep : p ≡ symbol_in run i) (eq : q ≡ symbol_in run j) where
-  pub shape-symbols : (p ≡ q → ⊥) → false ≡ same_shape run i j
+  pub shape-symbols : (p ≡ q → ⊥) → eqb p q ≡ same_shape run i j
   unfolding same_shape
-  shape-symbols d = rw (ne_eqb (symbol_in run i) (symbol_in run j) (λ e. d (ep ∙ e ∙ sym eq)))
+  shape-symbols d = rw (ne_eqb p q d, ne_eqb (symbol_in run i) (symbol_in run j) (λ e. d (ep ∙ e ∙ sym eq)))
 
   pub shape-counts : (c d : ℕ) → p ≡ q → c ≡ count_in run i → d ≡ count_in run j → eqb c d ≡ same_shape run i j
   unfolding same_shape
@@ -120,9 +120,9 @@ module _ (run t : List ℕ) (i j : ℕ) (laid : Laid run) (hi : i < row_count ru
   agree-in = rw (rows-at run i hi, rows-at run j hj)
 
   module _ (s : Bool) (es : s ≡ same_shape run i j) where
-    pub agree-shapes : not s ≡ true → false ≡ agree (rows_of run) t i j
+    pub agree-shapes : s ≡ false → s ≡ agree (rows_of run) t i j
     unfolding same_shape
-    agree-shapes d = go (eqb (symbol_in run i) (symbol_in run j)) refl (same_list l m) refl
+    agree-shapes d = d ∙ go (eqb (symbol_in run i) (symbol_in run j)) refl (same_list l m) refl
       where
         l : List ℕ
         l = arg_reps run t i (count_in run i)
@@ -134,7 +134,7 @@ module _ (run t : List ℕ) (i j : ℕ) (laid : Laid run) (hi : i < row_count ru
         long k h = length-reps run t k (count_in run k) (record { inside = h; four = laid.few k h })
 
         shapes : (eqb (symbol_in run i) (symbol_in run j) && eqb (count_in run i) (count_in run j)) ≡ false
-        shapes = sym es ∙ not-true s d
+        shapes = sym es ∙ d
 
         go : (x : Bool) → eqb (symbol_in run i) (symbol_in run j) ≡ x → (y : Bool) → same_list l m ≡ y → false ≡ agree (rows_of run) t i j
         go false e y f = sym (agree-in ∙ rw e refl)
@@ -144,11 +144,11 @@ module _ (run t : List ℕ) (i j : ℕ) (laid : Laid run) (hi : i < row_count ru
             let w : (eqb (symbol_in run i) (symbol_in run j) && eqb (count_in run i) (count_in run j)) ≡ true = rw (e, n) refl in
             false-true w shapes
 
-    pub agree-args : (c : ℕ) (r : Bool) → not s ≡ false → c ≡ count_in run i → r ≡ same_args run t i j c → r ≡ agree (rows_of run) t i j
+    pub agree-args : (c : ℕ) (r : Bool) → s ≡ true → c ≡ count_in run i → r ≡ same_args run t i j c → r ≡ agree (rows_of run) t i j
     unfolding same_shape same_args
     agree-args c r e ec er =
-        er ∙ ap₂ (λ (x y : ℕ). same_list (arg_reps run t i x) (arg_reps run t j y)) ec (ec ∙ eqb-true _ _ (and-true-right a b (sym es ∙ not-false s e)))
-        ∙ sym (agree-in ∙ rw (and-true-left a b (sym es ∙ not-false s e)))
+        er ∙ ap₂ (λ (x y : ℕ). same_list (arg_reps run t i x) (arg_reps run t j y)) ec (ec ∙ eqb-true _ _ (and-true-right a b (sym es ∙ e)))
+        ∙ sym (agree-in ∙ rw (and-true-left a b (sym es ∙ e)))
       where
         a : Bool
         a = eqb (symbol_in run i) (symbol_in run j)
@@ -161,11 +161,11 @@ pub seated-own : (run : List ℕ) (i c : ℕ) → Laid run → i < row_count run
 seated-own run i c laid h e = record { inside = h; four = omega (arith, laid.few i h) }
 
 -- rows of one shape have one count
-pub seated-other : (run : List ℕ) (i j c : ℕ) (s : Bool) → Laid run → i < row_count run → j < row_count run → s ≡ same_shape run i j → not s ≡ false
+pub seated-other : (run : List ℕ) (i j c : ℕ) (s : Bool) → Laid run → i < row_count run → j < row_count run → s ≡ same_shape run i j → s ≡ true
     → c ≡ count_in run i → Seated run j c
 unfolding same_shape
 seated-other run i j c s laid hi hj es e ec =
-    let f : count_in run i ≡ count_in run j = eqb-true _ _ (and-true-right (eqb (symbol_in run i) (symbol_in run j)) _ (sym es ∙ not-false s e)) in
+    let f : count_in run i ≡ count_in run j = eqb-true _ _ (and-true-right (eqb (symbol_in run i) (symbol_in run j)) _ (sym es ∙ e)) in
     record { inside = hj; four = omega (arith, laid.few i hi) }
 
 -- arguments with one representative

@@ -3,15 +3,13 @@
 --     Closes       the closing's answer and table of w places, for at most w rows and m statements, by cases
 --     clashing     the refusal's answer as a value of `meaning`
 -- Assumes nothing.
-use Rattle.std.specs.Prelude.{List, ◌≡◌, ℕ, ◌<◌, length}
+use Rattle.std.specs.Prelude.{List, ◌≡◌, ℕ, ◌<◌, length, Option, Some, None}
 use Rattle.meaning.specs.Equality.{rep_at, Promise}
 use Rattle.meaning.specs.ByTable.{Clashing, first, clear}
 use Rattle.runs.specs.Runs.{context_of}
 use Rattle.runs.specs.Fit.{FitContext}
 use Rattle.classes.specs.declared.Answer.{Answer}
 use Rattle.classes.specs.declared.Answer.TheVariants.{Closed, Unfit}
-use Rattle.classes.specs.declared.Contradiction.{Contradiction}
-use Rattle.classes.specs.declared.Contradiction.TheVariants.{First, Clear}
 
 pub record Own (w : ℕ) (table : List ℕ) : Type 0 where
   pub long : length table ≡ w
@@ -21,6 +19,6 @@ abbrev pub Closes : ℕ → ℕ → List ℕ → List ℕ → Answer → List �
 Closes w m rows said Closed table = FitContext w m rows said × Promise (context_of rows said) w table
 Closes w m rows said Unfit table = (FitContext w m rows said → ⊥) × Own w table
 
-abbrev pub clashing : Contradiction → Clashing
-clashing (First n) = first n
-clashing Clear = clear
+abbrev pub clashing : Option ℕ → Clashing
+clashing (Some n) = first n
+clashing None = clear

@@ -4,14 +4,14 @@
 --     arg_reps, same_arg .. same_args    two rows compared
 --     move_from, merge                 one merge
 --     state_step                       one statement of a pass over the statements
---     mix, key_of, Last .. Visited     chains of rows, and the search along one
+--     mix, key_of, link_of .. Visited   chains of rows, and the search along one
 --     Kept, Grown, Outcome, Passed    what holds of the table, and what a pass does to it
 --     Found, Nearer                   merges that follow a merge
 --     Pass, PassOn                    a pass with the sum after it
 --     Met, Rounding                   the table between passes, with its sum
 --     difference_at .. apart_at         one statement, as `clash` and `apart` read it
 -- Assumes nothing.
-use Rattle.std.specs.Prelude.{Bool, true, false, not, ◌&&◌, ◌||◌, List, [], ◌∷◌, ◌++◌, map, ◌≡◌, ◌⊎◌, ℕ, zero, suc, ◌+◌, ◌*◌, ◌%◌, ◌≤◌, ◌<◌, eqb, ltb, length, get_or, set, take, drop}
+use Rattle.std.specs.Prelude.{Bool, true, false, not, ◌&&◌, ◌||◌, List, [], ◌∷◌, ◌++◌, map, ◌≡◌, ◌⊎◌, ℕ, suc, ◌+◌, ◌*◌, ◌%◌, ◌≤◌, ◌<◌, eqb, ltb, length, get_or, set, take, drop, Option, Some, None}
 use Rattle.meaning.specs.Context.{Row, row_at, equations_of, left_at, right_at}
 use Rattle.meaning.specs.Equality.{rep_at}
 use Rattle.meaning.specs.Formed.{Ordered, Fit}
@@ -82,6 +82,11 @@ mix s (a ∷ l) = mix ((s * 31 + a) % chains) l
 unfoldable pub key_of : List Row → List ℕ → ℕ → ℕ
 key_of rows l i = mix (((row_at rows i).symbol * 37) % chains) (map (rep_at l) (row_at rows i).args)
 
+-- how a chain's places say a row, or none
+unfoldable pub link_of : Option ℕ → ℕ
+link_of None = 0
+link_of (Some p) = suc p
+
 -- the last of the first n rows with the key b, as one more than its number, or 0 where there is none
 pub record Last (key : ℕ → ℕ) (n b at : ℕ) : Type 0 where
   pub bound : at ≤ n
@@ -93,18 +98,18 @@ abbrev pub Nexts : (ℕ → ℕ) → List ℕ → ℕ → Type 0
 Nexts key next n = (j : ℕ) → j < n → Last key j (key j) (get_or next j 0)
 
 -- what the search of row i's mate finds: an earlier row that agrees with it; or nothing, and then none on its chain does
-pub record Mate (rows : List Row) (l next : List ℕ) (i head at : ℕ) : Type 0 where
-  pub bound : at ≤ i
-  pub agrees : (p : ℕ) → at ≡ suc p → agree rows l i p ≡ true
-  pub none : (key : ℕ → ℕ) → Nexts key next i → Last key i (key i) head → at ≡ 0
+pub record Mate (rows : List Row) (l next : List ℕ) (i head : ℕ) (found : Option ℕ) : Type 0 where
+  pub bound : (p : ℕ) → found ≡ Some p → p < i
+  pub agrees : (p : ℕ) → found ≡ Some p → agree rows l i p ≡ true
+  pub none : (key : ℕ → ℕ) → Nexts key next i → Last key i (key i) head → found ≡ None
       → (j : ℕ) → j < i → key j ≡ key i → agree rows l i j ≡ false
 
-abbrev pub merge_at : ℕ → ℕ → List ℕ → List ℕ
-merge_at i zero l = l
-merge_at i (suc p) l = merge i p l
+abbrev pub merge_at : ℕ → Option ℕ → List ℕ → List ℕ
+merge_at i None l = l
+merge_at i (Some p) l = merge i p l
 
 pub record Joined (rows : List Row) (next : List ℕ) (i head : ℕ) (l m : List ℕ) : Type 0 where
-  pub at : ℕ
+  pub at : Option ℕ
   pub mate : Mate rows l next i head at
   pub so : m ≡ merge_at i at l
 
@@ -149,10 +154,10 @@ pub record Passed (rows : List Row) (l m : List ℕ) : Type 0 where
 
 -- ---- merges that follow a merge
 
--- a row that agrees with row i, as one more than its number, or 0 where none is found
-pub record Found (rows : List Row) (l : List ℕ) (n i at : ℕ) : Type 0 where
-  pub bound : at ≤ n
-  pub agrees : (p : ℕ) → at ≡ suc p → agree rows l i p ≡ true
+-- a row that agrees with row i, where one is found
+pub record Found (rows : List Row) (l : List ℕ) (n i : ℕ) (at : Option ℕ) : Type 0 where
+  pub bound : (p : ℕ) → at ≡ Some p → p < n
+  pub agrees : (p : ℕ) → at ≡ Some p → agree rows l i p ≡ true
 
 -- from l to m: what holds of the table goes on to hold, and the sum does not rise
 pub record Nearer (rows : List Row) (l m : List ℕ) : Type 0 where

@@ -32,13 +32,8 @@ pub enum Answer {
     Unfit,
 }
 
-#[derive(Clone, Copy)]
-pub enum Contradiction {
-    First(usize),
-    Clear,
-}
-
 // The table is held by value. Places past the rows hold their own numbers.
+// The table says something under either answer, so the answer is no Result around it.
 #[derive(Clone, Copy)]
 pub struct Classes {
     pub answer: Answer,
@@ -57,6 +52,7 @@ fn begin(rows: &[u16], said: &[u16], table: &mut [u16]) -> u32
 }
 
 // A pass over the rows. The answer is the sum of the representatives after it.
+// Beside pass_on: the contracts differ, since one that follows up need not find all.
 fn pass(rows: &[u16], table: &mut [u16]) -> u32
     requires laid { Laid rows.now }
     requires table_len_bound { length table.old ≤ most_rows }
@@ -85,14 +81,16 @@ fn round(rows: &[u16], table: &mut [u16], old: u32) -> u32
 {
     let fresh = pass(rows, table);
     if fresh == old {
-        return fresh;
+        fresh
+    } else {
+        pass_on(rows, table)
     }
-    pass_on(rows, table)
 }
 
 // The stated equations, and then passes over the rows till the sum of the representatives stays. Rows that have one representative keep it
 // in common, so the equations are joined once. Most ledgers are done after a pass or two; where they are not, each further pass comes after
 // one that follows up its merges.
+// No `for`: the passes go on until one changes nothing.
 fn settle(rows: &[u16], said: &[u16], table: &mut [u16])
     requires laid { Laid rows.now }
     requires fit { Fit (context_of rows.now said.now) }
@@ -127,50 +125,41 @@ pub fn close(rows: &[u16], said: &[u16]) -> Classes
 {
     let mut table = own();
     if fit_context(rows, said, ROWS, STATEMENTS) {
-        let n = row_count(rows);
-        settle(rows, said, &mut table[..n]);
-        let closed = Answer::Closed;
+        settle(rows, said, &mut table[..row_count(rows)]);
         Classes {
-            answer: closed,
-            table: table,
+            answer: Answer::Closed,
+            table,
         }
     } else {
-        let unfit = Answer::Unfit;
         Classes {
-            answer: unfit,
-            table: table,
+            answer: Answer::Unfit,
+            table,
         }
     }
 }
 
 // The first stated difference whose sides have one representative, counted from 0 among the differences.
-pub fn clash(said: &[u16], table: &[u16]) -> Contradiction
+pub fn clash(said: &[u16], table: &[u16]) -> Option<usize>
     ensures clashes { clashing result ≡ clash_of (rep_at table.now) (differences_of (statements_of said.now)) }
 {
-    let m = said_count(said);
     let mut n: usize = 0;
-    let mut k: usize = 0;
-    while k < m {
+    for k in 0..said_count(said) {
         if clash_at(said, table, k) {
-            return Contradiction::First(n);
+            return Some(n);
         }
         n += difference_at(said, k);
-        k += 1;
     }
-    Contradiction::Clear
+    None
 }
 
 // Whether the classes with the representatives a and b are kept apart by a stated difference.
 pub fn apart(said: &[u16], table: &[u16], a: u16, b: u16) -> bool
     ensures keeps { result ≡ apart_by (rep_at table.now) (differences_of (statements_of said.now)) a b }
 {
-    let m = said_count(said);
-    let mut k: usize = 0;
-    while k < m {
+    for k in 0..said_count(said) {
         if apart_at(said, table, k, a, b) {
             return true;
         }
-        k += 1;
     }
     false
 }

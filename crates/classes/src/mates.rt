@@ -4,10 +4,9 @@ ghost use Rattle.meaning.specs.Equality.{rep_at};
 ghost use Rattle.meaning.specs.Closing.{agree as agreed};
 ghost use Rattle.runs.specs.Limits.{most_rows, arg_places};
 ghost use Rattle.runs.specs.Runs.{row_count, arg_in, rows_of};
-ghost use Rattle.classes.specs.Steps.{chains, Laid, Seated, arg_reps, same_arg, same_args, same_shape, mix, key_of, Mate, Joined, Bounded, Visited, Passed};
+ghost use Rattle.classes.specs.Steps.{chains, Laid, Seated, arg_reps, same_arg, same_args, same_shape, mix, key_of, link_of, Mate, Joined, Bounded, Visited, Passed};
 
 use super::table::{at_row, unite};
-use casts::usize_of_u16;
 use runs::limits::ROWS;
 use runs::{arg_in, count_in, row_count, symbol_in};
 
@@ -39,26 +38,22 @@ fn same_args(rows: &[u16], table: &[u16], i: usize, j: usize, count: usize) -> b
     requires seated_2 { Seated rows.now j count }
     ensures { result ≡ same_args rows.now table.now i j count }
 {
-    let mut k: usize = 0;
-    while k < count {
+    for k in 0..count {
         if !same_arg(rows, table, i, j, k) {
             return false;
         }
-        k += 1;
     }
     true
 }
 
 // Whether rows i and j have one symbol, and arguments in the same number.
+// Beside the one of search_pairs: the crates above differ in what they say of it, and it is one line.
 fn same_shape(rows: &[u16], i: usize, j: usize) -> bool
     requires i_bound { i < row_count rows.now }
     requires j_bound { j < row_count rows.now }
     ensures { result ≡ same_shape rows.now i j }
 {
-    if symbol_in(rows, i) != symbol_in(rows, j) {
-        return false;
-    }
-    count_in(rows, i) == count_in(rows, j)
+    symbol_in(rows, i) == symbol_in(rows, j) && count_in(rows, i) == count_in(rows, j)
 }
 
 // Whether rows i and j have one symbol, and arguments with the same representatives.
@@ -68,10 +63,7 @@ pub(crate) fn agree(rows: &[u16], table: &[u16], i: usize, j: usize) -> bool
     requires j_bound { j < row_count rows.now }
     ensures { result ≡ agreed (rows_of rows.now) table.now i j }
 {
-    if !same_shape(rows, i, j) {
-        return false;
-    }
-    same_args(rows, table, i, j, count_in(rows, i))
+    same_shape(rows, i, j) && same_args(rows, table, i, j, count_in(rows, i))
 }
 
 // The key s with the representatives of the first count arguments of row i mixed in.
@@ -81,10 +73,8 @@ fn mixed(rows: &[u16], table: &[u16], i: usize, count: usize, s: usize) -> usize
     ensures { (result ≡ mix s (arg_reps rows.now table.now i count)) × (result < chains) }
 {
     let mut key = s;
-    let mut k: usize = 0;
-    while k < count {
-        key = (key * 31 + usize_of_u16(arg_class(rows, table, i, k))) % CHAINS;
-        k += 1;
+    for k in 0..count {
+        key = (key * 31 + usize::from(arg_class(rows, table, i, k))) % CHAINS;
     }
     key
 }
@@ -100,53 +90,46 @@ pub(crate) fn chain(rows: &[u16], table: &[u16], i: usize) -> usize
         table,
         i,
         count_in(rows, i),
-        (usize_of_u16(symbol_in(rows, i)) * 37) % CHAINS,
+        (usize::from(symbol_in(rows, i)) * 37) % CHAINS,
     )
 }
 
-// The first row that agrees with row i on the way along its chain, as one more than its number, or 0 where there is none.
-fn mate(rows: &[u16], table: &[u16], next: &[u16; ROWS], i: usize, head: usize) -> usize
+// The row that a link leads to. A link is one more than a row's number, or 0 where there is none: two bytes, where an Option<u16> has four.
+pub(crate) fn row_of(link: u16) -> Option<usize>
+    ensures { link_of result ≡ link }
+{
+    usize::from(link).checked_sub(1)
+}
+
+// The first row that agrees with row i on the way along its chain.
+fn mate(rows: &[u16], table: &[u16], next: &[u16; ROWS], i: usize, head: u16) -> Option<usize>
     requires laid { Laid rows.now }
     requires i_bound { i < row_count rows.now }
     requires by_index { (j : ℕ) → j < i → get_or next.now j 0 ≤ j }
     requires head_le_i { head ≤ i }
     ensures { Mate (rows_of rows.now) table.now next.now i head result }
 {
-    let mut at = head;
-    while 0 < at {
-        let j = at - 1;
+    let mut at = row_of(head);
+    while let Some(j) = at {
         if agree(rows, table, i, j) {
             return at;
         }
-        at = usize_of_u16(next[j]);
+        at = row_of(next[j]);
     }
-    0
+    None
 }
 
 // Row i and its mate get one representative.
-fn join_row(rows: &[u16], table: &mut [u16], next: &[u16; ROWS], i: usize, head: usize)
+fn join_row(rows: &[u16], table: &mut [u16], next: &[u16; ROWS], i: usize, head: u16)
     requires laid { Laid rows.now }
     requires i_bound { i < row_count rows.now }
     requires by_index { (j : ℕ) → j < i → get_or next.now j 0 ≤ j }
     requires head_le_i { head ≤ i }
     ensures { Joined (rows_of rows.now) next.now i head table.old table.new }
 {
-    let at = mate(rows, table, next, i, head);
-    if 0 < at {
-        unite(table, i, at - 1);
+    if let Some(j) = mate(rows, table, next, i, head) {
+        unite(table, i, j);
     }
-}
-
-pub(crate) fn no_heads() -> [u16; CHAINS]
-    ensures { result ≡ replicate chains 0 }
-{
-    [0; CHAINS]
-}
-
-pub(crate) fn no_rows() -> [u16; ROWS]
-    ensures { result ≡ replicate most_rows 0 }
-{
-    [0; ROWS]
 }
 
 // Row i and its mate get one representative, and row i becomes the head of its chain.
@@ -164,7 +147,7 @@ fn visit(
 {
     let b = chain(rows, table, i);
     let head = heads[b];
-    join_row(rows, table, next, i, usize_of_u16(head));
+    join_row(rows, table, next, i, head);
     next[i] = head;
     heads[b] = (i + 1) as u16;
 }
@@ -174,12 +157,9 @@ pub(crate) fn join_rows(rows: &[u16], table: &mut [u16])
     requires { Laid rows.now }
     ensures { Passed (rows_of rows.now) table.old table.new }
 {
-    let n = row_count(rows);
-    let mut heads = no_heads();
-    let mut next = no_rows();
-    let mut i: usize = 0;
-    while i < n {
+    let mut heads = [0; CHAINS];
+    let mut next = [0; ROWS];
+    for i in 0..row_count(rows) {
         visit(rows, table, &mut heads, &mut next, i);
-        i += 1;
     }
 }

@@ -4,8 +4,6 @@ ghost use Rattle.meaning.specs.Equality.{rep_at};
 ghost use Rattle.meaning.specs.Closing.{move, total, count as numbers};
 ghost use Rattle.classes.specs.Steps.{move_from, merge};
 
-use casts::{u32_of_u16, usize_of_u16};
-
 // What a table holds at a row, and 0 past its end.
 pub(crate) fn at_row(table: &[u16], row: usize) -> u16
     ensures { result ≡ rep_at table.now row }
@@ -18,29 +16,19 @@ pub(crate) fn number(table: &mut [u16])
     requires { length table.old ≤ 65535 }
     ensures { table.new ≡ numbers (length table.old) 0 }
 {
-    let n = table.len();
-    let mut i: usize = 0;
-    while i < n {
-        table[i] = i as u16;
-        i += 1;
+    for (i, place) in table.iter_mut().enumerate() {
+        *place = i as u16;
     }
-}
-
-fn moved(lo: u16, hi: u16, x: u16) -> u16
-    ensures { result ≡ move lo hi x }
-{
-    if x == hi { lo } else { x }
 }
 
 // Each place that holds hi gets lo.
 fn move_all(table: &mut [u16], lo: u16, hi: u16)
     ensures { table.new ≡ map (move lo hi) table.old }
 {
-    let n = table.len();
-    let mut r: usize = 0;
-    while r < n {
-        table[r] = moved(lo, hi, table[r]);
-        r += 1;
+    for place in table.iter_mut() {
+        if *place == hi {
+            *place = lo;
+        }
     }
 }
 
@@ -48,7 +36,7 @@ fn move_all(table: &mut [u16], lo: u16, hi: u16)
 fn move_class(table: &mut [u16], lo: u16, hi: u16)
     ensures { table.new ≡ move_from lo hi table.old }
 {
-    let first = usize_of_u16(hi);
+    let first = usize::from(hi);
     if first <= table.len() {
         move_all(&mut table[first..], lo, hi);
     }
@@ -72,12 +60,9 @@ pub(crate) fn sum(table: &[u16]) -> u32
     requires { length table.now ≤ 65535 }
     ensures { result ≡ total (length table.now) (rep_at table.now) }
 {
-    let n = table.len();
     let mut s: u32 = 0;
-    let mut r: usize = 0;
-    while r < n {
-        s += u32_of_u16(table[r]);
-        r += 1;
+    for place in table.iter() {
+        s += u32::from(*place);
     }
     s
 }

@@ -19,8 +19,7 @@ use Rattle.meaning.proofs.Promised.{promise-one}
 use Rattle.closing.specs.declared.Answer.{Answer}
 use Rattle.closing.specs.declared.Answer.TheVariants.{Closed, Unfit}
 use Rattle.closing.specs.declared.Classes.{Classes}
-use Rattle.closing.specs.declared.Contradiction.{Contradiction}
-use Rattle.closing.specs.declared.Contradiction.TheVariants.{First, Clear}
+use Rattle.std.specs.Prelude.{Option, Some, None}
 use Rattle.columns.specs.Fit.{FitContext}
 use Rattle.closing.specs.Claims.{Own, Closes, clashing}
 use Rattle.closing.proofs.Pairs.{pair_at, kept, pairs_from, is_difference, differences-are}
@@ -46,11 +45,11 @@ module _ (symbols counts args : List ℕ) (n : ℕ) (kinds lefts rights : List �
   closes-fit Closed t f p = (refl, p.1)
   closes-fit Unfit t f p = absurd (p.0 f)
 
-pub clash-one : (r s : Contradiction) (x : Clashing) → clashing r ≡ x → clashing s ≡ x → r ≡ s
-clash-one (First n) (First k) x p q = cc
-clash-one (First n) Clear x p q = absurd (let z : ◌≡◌ {A = ℕ} 0 1 = cc in omega arith)
-clash-one Clear (First k) x p q = absurd (let z : ◌≡◌ {A = ℕ} 0 1 = cc in omega arith)
-clash-one Clear Clear x p q = refl
+pub clash-one : (r s : Option ℕ) (x : Clashing) → clashing r ≡ x → clashing s ≡ x → r ≡ s
+clash-one (Some n) (Some k) x p q = cc
+clash-one (Some n) None x p q = absurd (let z : ◌≡◌ {A = ℕ} 0 1 = cc in omega arith)
+clash-one None (Some k) x p q = absurd (let z : ◌≡◌ {A = ℕ} 0 1 = cc in omega arith)
+clash-one None None x p q = refl
 
 pub apart-one : (r s x : Bool) → r ≡ x → s ≡ x → r ≡ s
 apart-one r s x p q = p ∙ sym q

@@ -26,7 +26,8 @@ use Rattle.meaning.proofs.Logic.{and-true-left, and-true-right, false-true}
 use Rattle.meaning.proofs.Lists.{same_list-true, same_list-self}
 use Rattle.meaning.proofs.Closes.{agree-equal}
 use Rattle.meaning.proofs.Built.{length-rows}
-use Rattle.closing.specs.Steps.{Laid, key_of, Last, Nexts, Mate, unite_at, Joined, Kept, Outcome, Alike, Passed}
+use Rattle.std.specs.Prelude.{Option, Some, None}
+use Rattle.closing.specs.Steps.{Laid, key_of, one_more, Last, Nexts, Mate, unite_at, Joined, Kept, Outcome, Alike, Passed}
 use Rattle.closing.proofs.Rows.{mix-below}
 use Rattle.closing.proofs.Merges.{outcome-none, outcome-then, unite-outcome}
 
@@ -95,10 +96,10 @@ pub seeking-less : {rows : List Row} {l next : List ℕ} {i head at x : ℕ} →
 seeking-less {rows} {l} {next} {i} {head} {at} {x} s h q = omega (arith, s.links (at - 1) (omega (arith, s.bound)))
 
 pub seeking-found : {rows : List Row} {l next : List ℕ} {i head at : ℕ} {r : Bool} → Seeking rows l next i head at → 0 < at
-    → r ≡ agree rows l i (at - 1) → r ≡ true → Mate rows l next i head at
+    → r ≡ agree rows l i (at - 1) → r ≡ true → Mate rows l next i head (suc (at - 1))
 seeking-found {rows} {l} {next} {i} {head} {at} {r} s h e f =
     record {
-      bound = s.bound;
+      bound = omega (arith, s.bound);
       agrees = λ p q. subst (λ (x : ℕ). agree rows l i x ≡ true) (omega arith) (sym e ∙ f);
       none = λ key nexts last z. absurd (omega arith);
     }
@@ -112,16 +113,13 @@ seeking-done {rows} {l} {next} {i} {head} {at} s h =
     }
 
 -- ---- a row and its mate
-pub joined-none : (rows : List Row) (next : List ℕ) (i head at : ℕ) (l : List ℕ) → Mate rows l next i head at → at ≤ 0 → Joined rows next i head l l
-joined-none rows next i head at l m h =
-    let e : at ≡ 0 = omega arith in
-    record { at = at; mate = m; so = sym (ap (λ (x : ℕ). unite_at i x l) e) }
+pub joined-none : (rows : List Row) (next : List ℕ) (i head : ℕ) (l : List ℕ) (o : Option ℕ) → Mate rows l next i head (one_more o) → o ≡ None
+    → Joined rows next i head l l
+joined-none rows next i head l o m e = record { at = 0; mate = subst (λ x. Mate rows l next i head (one_more x)) e m; so = refl }
 
-pub joined-mate : (rows : List Row) (next : List ℕ) (i head at : ℕ) (l n : List ℕ) → Mate rows l next i head at → 0 < at → n ≡ unite i (at - 1) l
+pub joined-mate : (rows : List Row) (next : List ℕ) (i head j : ℕ) (l n : List ℕ) (o : Option ℕ) → Mate rows l next i head (one_more o) → o ≡ Some j → n ≡ unite i j l
     → Joined rows next i head l n
-joined-mate rows next i head at l n m h e =
-    let q : at ≡ suc (at - 1) = omega arith in
-    record { at = at; mate = m; so = e ∙ sym (ap (λ (x : ℕ). unite_at i x l) q) }
+joined-mate rows next i head j l n o m e q = record { at = suc j; mate = subst (λ x. Mate rows l next i head (one_more x)) e m; so = q }
 
 -- ---- the pass over the rows
 

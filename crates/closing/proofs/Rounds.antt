@@ -1,6 +1,5 @@
 -- The stated equations joined, and passes over the rows till nothing changes: what holds at the head of the loop, what a pass does there, and
 -- what is promised at its end.
---     mine     what `settle` leaves to show
 -- Assumes nothing.
 use mathlib.Core.Bool.{Bool, true, false}
 use mathlib.Core.List.{List}
@@ -10,7 +9,6 @@ use Prim.Native.Nat.{ℕ, zero, suc, ◌*◌, ◌≤◌, ◌<◌}
 use native.Mathlib.Omega.{arith}
 use lib.Dec.{eqb}
 use lib.ListN.{length, get_or}
-use borrow.Author.Rules.{rules}
 use borrow.Author.Tests.{eqb-true, eqb-false}
 use Rattle.meaning.specs.Context.{Row, term_at, Context, equations, equations_of, left_at, right_at}
 use Rattle.meaning.specs.Equality.{Equal, given, rep_at, Promise}
@@ -209,5 +207,3 @@ module _ {symbols counts args : List ℕ} {n : ℕ} {kinds lefts rights : List �
             let w : (left_at E' p < length R') × (right_at E' p < length R') = sides symbols counts args n kinds lefts rights m r.fit p h in
             let long : length R' ≤ 255 = omega (arith, length-rows symbols counts args n, r.fit.rows_few) in
             then.grown (left_at E' p) (right_at E' p) (omega (arith, w.0)) (omega (arith, w.1)) (met-on p h)
-
-pub ruleset mine = (rules, rounding-start, rounding-less, rounding-next, rounding-again, rounding-ends)

@@ -3,8 +3,8 @@
 -- Assumes nothing.
 use mathlib.Core.Bool.{Bool, true, false, ◌&&◌}
 use mathlib.Core.List.{List, [], ◌∷◌, ◌++◌}
-use mathlib.Core.Path.{◌≡◌, refl, ap, ap₂, sym, ◌∙◌, subst}
-use Prim.Native.Nat.{ℕ, suc, ◌+◌, ◌-◌, ◌*◌, ◌%◌, ◌≤◌, ◌<◌}
+use mathlib.Core.Path.{◌≡◌, refl, ap, ap₂, sym, ◌∙◌}
+use Prim.Native.Nat.{ℕ, suc, ◌+◌, ◌*◌, ◌%◌, ◌≤◌, ◌<◌}
 use native.Mathlib.Numerals.{add-one}
 use native.Mathlib.Omega.{arith}
 use lib.Dec.{eqb}
@@ -62,52 +62,50 @@ module _ (args t : List ℕ) (i count : ℕ) (long : i * 4 + 4 ≤ length args) 
       rep_at-map (rep_at t) (take count (drop (i * 4) args)) k (omega (arith, length-map (take count (drop (i * 4) args)) (rep_at t), length-reps))
       ∙ ap (rep_at t) (get_or-take count (drop (i * 4) args) k 0 h ∙ get_or-drop (i * 4) args k 0)
 
--- but for the last `left`, the arguments have the same representatives
-pub record Agreeing (args t : List ℕ) (i j count left : ℕ) : Type 0 where
+-- the first k arguments have the same representatives
+pub record Agreeing (args t : List ℕ) (i j count k : ℕ) : Type 0 where
   pub asks : Comparable args i j count
-  pub rest : left ≤ count
-  pub lists : Comparing (arg_reps args t i count) (arg_reps args t j count) (count - left)
+  pub reach : k ≤ count
+  pub lists : Comparing (arg_reps args t i count) (arg_reps args t j count) k
 
-pub agreeing-start : (args t : List ℕ) (i j count : ℕ) → Comparable args i j count → Agreeing args t i j count count
+pub agreeing-start : (args t : List ℕ) (i j count : ℕ) → Comparable args i j count → Agreeing args t i j count 0
 agreeing-start args t i j count asks =
     record {
       asks = asks;
-      rest = omega arith;
-      lists = subst (Comparing (arg_reps args t i count) (arg_reps args t j count)) (omega arith)
-          (comparing-start _ _
-          (length-reps args t i count asks.first-long asks.four ∙ sym (length-reps args t j count asks.second-long asks.four)));
+      reach = omega arith;
+      lists = comparing-start _ _
+          (length-reps args t i count asks.first-long asks.four ∙ sym (length-reps args t j count asks.second-long asks.four));
     }
 
-module _ {args t : List ℕ} {i j count left : ℕ} (g : Agreeing args t i j count left) where
+module _ {args t : List ℕ} {i j count k : ℕ} (g : Agreeing args t i j count k) where
   long-left : length (arg_reps args t i count) ≡ count
   long-left = length-reps args t i count g.asks.first-long g.asks.four
 
-  module _ {a b : ℕ} (more : 0 < left) (ea : a ≡ rep_at t (get_or args (i * 4 + (count - left)) 0)) (eb : b ≡ rep_at t (get_or args (j * 4 + (count - left)) 0)) where
-    at_left : get_or (arg_reps args t i count) (count - left) 0 ≡ a
-    at_left = reps-at args t i count g.asks.first-long g.asks.four (count - left) (omega (arith, g.rest)) ∙ sym ea
+  module _ {a b : ℕ} (more : k < count) (ea : a ≡ rep_at t (get_or args (i * 4 + k) 0)) (eb : b ≡ rep_at t (get_or args (j * 4 + k) 0)) where
+    at_left : get_or (arg_reps args t i count) k 0 ≡ a
+    at_left = reps-at args t i count g.asks.first-long g.asks.four k (omega (arith, g.reach)) ∙ sym ea
 
-    at_right : get_or (arg_reps args t j count) (count - left) 0 ≡ b
-    at_right = reps-at args t j count g.asks.second-long g.asks.four (count - left) (omega (arith, g.rest)) ∙ sym eb
+    at_right : get_or (arg_reps args t j count) k 0 ≡ b
+    at_right = reps-at args t j count g.asks.second-long g.asks.four k (omega (arith, g.reach)) ∙ sym eb
 
-    in_left : count - left < length (arg_reps args t i count)
-    in_left = omega (arith, long-left, g.rest)
+    in_left : k < length (arg_reps args t i count)
+    in_left = omega (arith, long-left, g.reach)
 
-    pub agreeing-next : a ≡ b → Agreeing args t i j count (left - 1)
+    pub agreeing-next : a ≡ b → Agreeing args t i j count (k + 1)
     agreeing-next e =
         record {
           asks = g.asks;
-          rest = omega (arith, g.rest);
-          lists = subst (Comparing (arg_reps args t i count) (arg_reps args t j count)) (omega (arith, g.rest))
-              (comparing-next g.lists in_left (at_left ∙ e ∙ sym at_right));
+          reach = omega arith;
+          lists = comparing-next g.lists in_left (at_left ∙ e ∙ sym at_right);
         }
 
     pub agreeing-differs : (a ≡ b → ⊥) → false ≡ same_args args t i j count
     unfolding same_args
     agreeing-differs d = comparing-differs g.lists in_left (λ e. d (sym at_left ∙ e ∙ at_right))
 
-  pub agreeing-done : left ≤ 0 → true ≡ same_args args t i j count
+  pub agreeing-done : count ≤ k → true ≡ same_args args t i j count
   unfolding same_args
-  agreeing-done h = comparing-done g.lists (omega (arith, long-left, g.rest))
+  agreeing-done h = comparing-done g.lists (omega (arith, long-left, g.reach))
 
 -- ---- two rows compared
 

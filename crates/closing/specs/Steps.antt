@@ -1,17 +1,20 @@
 -- What the inner functions of the closing ask and answer. `further`, which goes on from a closed table, cites it too.
 --     Laid, Comparable, Seated        rows that have their places
+--     Roomy                           `Laid` of rows that are lent
 --     arg_reps, same_args               two rows compared
 --     state_step                       one statement of a pass over the statements
+--     one_more                         a row or none, as a number
 --     mix, key_of, Last, Mate, Joined  chains of rows, and the search along one
 --     Kept, Grown, Outcome, Passed    the table between passes, and what a pass does to it
 --     Found, Nearer                   merges that follow a merge
 --     Read .. apart_at                 one statement, as `clash` and `apart` read it
 -- Assumes nothing.
-use Rattle.std.specs.Prelude.{Bool, true, false, not, ◌&&◌, ◌||◌, List, [], ◌∷◌, map, ◌≡◌, ◌⊎◌, ℕ, zero, suc, ◌+◌, ◌*◌, ◌%◌, ◌≤◌, ◌<◌, eqb, length, get_or, take, drop}
+use Rattle.std.specs.Prelude.{Option, Some, None, Bool, true, false, not, ◌&&◌, ◌||◌, List, [], ◌∷◌, map, ◌≡◌, ◌⊎◌, ℕ, zero, suc, ◌+◌, ◌*◌, ◌%◌, ◌≤◌, ◌<◌, eqb, length, get_or, take, drop}
 use Rattle.meaning.specs.Context.{Row, row_at}
 use Rattle.meaning.specs.Equality.{rep_at}
 use Rattle.meaning.specs.Formed.{Ordered}
 use Rattle.meaning.specs.ByTable.{same_list}
+use Rattle.columns.specs.declared.Terms.{Terms}
 use Rattle.meaning.specs.Closing.{Sofar, total, unite, agree}
 
 -- room for n rows, and no row has more than four arguments
@@ -19,6 +22,9 @@ pub record Laid (counts args : List ℕ) (n : ℕ) : Type 0 where
   pub long : n * 4 ≤ length args
   pub room : n ≤ 255
   pub few : (i : ℕ) → i < n → get_or counts i 0 ≤ 4
+
+abbrev pub Roomy : Terms → Type 0
+Roomy t = Laid t.counts.now t.args.now t.rows
 
 -- rows i and j have places for their arguments, and count is no more than there are for each
 pub record Comparable (args : List ℕ) (i j count : ℕ) : Type 0 where
@@ -66,6 +72,11 @@ pub record Last (key : ℕ → ℕ) (n b at : ℕ) : Type 0 where
 -- each of the first n rows leads to the last row before it with its key
 abbrev pub Nexts : (ℕ → ℕ) → List ℕ → ℕ → Type 0
 Nexts key next n = (j : ℕ) → j < n → Last key j (key j) (get_or next j 0)
+
+-- a row as one more than its number, and none as 0
+abbrev pub one_more : Option ℕ → ℕ
+one_more None = 0
+one_more (Some p) = suc p
 
 -- what the search of row i's mate finds: an earlier row that agrees with it; or nothing, and then none on its chain does
 pub record Mate (rows : List Row) (l next : List ℕ) (i head at : ℕ) : Type 0 where

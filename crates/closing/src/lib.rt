@@ -11,12 +11,11 @@ ghost use Rattle.std.specs.Prelude.{◌≡◌, ◌*◌, ◌≤◌, length};
 ghost use Rattle.meaning.specs.Context.{differences_of};
 ghost use Rattle.meaning.specs.Equality.{rep_at, Promise};
 ghost use Rattle.meaning.specs.ByTable.{clash_of, apart_by};
-ghost use Rattle.meaning.specs.Columns.{statements_from, context_from};
 ghost use Rattle.meaning.specs.Closing.{count as numbers};
-ghost use Rattle.columns.specs.Fit.{FitContext};
-ghost use Rattle.closing.specs.Claims.{Closes, clashing};
+ghost use Rattle.columns.specs.Lent.{statements_in, context_in, Fits};
+ghost use Rattle.closing.specs.Claims.{ClosesIn, clashing};
 
-use columns::fit_context;
+use columns::{Context, Statements, fit_context};
 use mates::join_rows;
 use statements::{apart_at, clash_at, difference_at, join_stated};
 use table::{own, sum};
@@ -28,129 +27,82 @@ pub enum Answer {
     Unfit,
 }
 
+// No Option: the table says something of each place where the columns are unfit, too.
 #[derive(Clone, Copy)]
 pub struct Classes {
     pub answer: Answer,
     pub table: [u16; 255],
 }
 
-#[derive(Clone, Copy)]
-pub enum Contradiction {
-    First(u16),
-    Clear,
-}
-
 // The stated equations, and then passes over the rows till the sum of the representatives stays. Rows that have one representative keep it
 // in common, so the equations are joined once. Most ledgers are done after a pass or two; where they are not, each further pass comes after
 // one that follows up its merges.
-fn settle<'a>(
-    symbols: &'a [u16; 255],
-    counts: &'a [u8; 255],
-    args: &'a [u16; 1020],
-    rows: usize,
-    kinds: &'a [u8; 510],
-    lefts: &'a [u16; 510],
-    rights: &'a [u16; 510],
-    statements: usize,
-    table: &mut [u16; 255],
-)
-    requires fit_context { FitContext symbols.now counts.now args.now rows kinds.now lefts.now rights.now statements }
-    requires rows_in_bounds { rows * 4 ≤ length args.now }
+// No `for`: the passes go on until one changes nothing.
+fn settle(context: &Context, table: &mut [u16; 255])
+    requires fit_context { Fits context.now }
+    requires rows_in_bounds { context.now.terms.rows * 4 ≤ length context.now.terms.args.now }
     requires table_value { table.old ≡ numbers 255 0 }
-    ensures { Promise (context_from symbols.now counts.now args.now rows kinds.now lefts.now rights.now statements) 255 table.new }
+    ensures { Promise (context_in context.now) 255 table.new }
 {
-    join_stated(kinds, lefts, rights, statements, table);
-    let start = sum(table, rows);
-    join_rows(symbols, counts, args, rows, table);
-    let mut old = sum(table, rows);
+    join_stated(&context.statements, table);
+    let start = sum(table, context.terms.rows);
+    join_rows(&context.terms, table);
+    let mut old = sum(table, context.terms.rows);
     if old == start {
         return;
     }
     loop {
-        join_rows(symbols, counts, args, rows, table);
-        let fresh = sum(table, rows);
+        join_rows(&context.terms, table);
+        let fresh = sum(table, context.terms.rows);
         if fresh == old {
             return;
         }
-        follow(symbols, counts, args, rows, table);
-        old = sum(table, rows);
+        follow(&context.terms, table);
+        old = sum(table, context.terms.rows);
     }
 }
 
 // The representatives of the rows, or each place's own number where the columns are not fit.
-pub fn close<'a>(
-    symbols: &'a [u16; 255],
-    counts: &'a [u8; 255],
-    args: &'a [u16; 1020],
-    rows: usize,
-    kinds: &'a [u8; 510],
-    lefts: &'a [u16; 510],
-    rights: &'a [u16; 510],
-    statements: usize,
-) -> Classes
-    ensures closes { Closes symbols.now counts.now args.now rows kinds.now lefts.now rights.now statements result.answer result.table }
+pub fn close(context: &Context) -> Classes
+    ensures closes { ClosesIn context.now result }
 {
     let mut table = own();
-    if fit_context(
-        symbols, counts, args, rows, kinds, lefts, rights, statements,
-    ) {
-        settle(
-            symbols, counts, args, rows, kinds, lefts, rights, statements, &mut table,
-        );
-        let closed = Answer::Closed;
+    if fit_context(context) {
+        settle(context, &mut table);
         Classes {
-            answer: closed,
-            table: table,
+            answer: Answer::Closed,
+            table,
         }
     } else {
-        let unfit = Answer::Unfit;
         Classes {
-            answer: unfit,
-            table: table,
+            answer: Answer::Unfit,
+            table,
         }
     }
 }
 
 // The first stated difference whose sides have one representative, counted from 0 among the differences.
-pub fn clash<'a>(
-    kinds: &'a [u8; 510],
-    lefts: &'a [u16; 510],
-    rights: &'a [u16; 510],
-    statements: usize,
-    table: &'a [u16; 255],
-) -> Contradiction
-    ensures clashes { clashing result ≡ clash_of (rep_at table.now) (differences_of (statements_from kinds.now lefts.now rights.now statements)) }
+pub fn clash(statements: &Statements, table: &[u16; 255]) -> Option<u16>
+    ensures clashes { clashing result ≡ clash_of (rep_at table.now) (differences_of (statements_in statements.now)) }
 {
     let mut n: u16 = 0;
-    let mut k: usize = 0;
-    while k < statements {
-        if clash_at(kinds, lefts, rights, table, k) {
-            return Contradiction::First(n);
+    for k in 0..statements.count {
+        if clash_at(statements, table, k) {
+            return Some(n);
         }
-        n += difference_at(kinds, k);
-        k += 1;
+        n += difference_at(statements.kinds, k);
     }
-    Contradiction::Clear
+    None
 }
 
 // Whether the classes with the representatives a and b are kept apart by a stated difference.
-pub fn apart<'a>(
-    kinds: &'a [u8; 510],
-    lefts: &'a [u16; 510],
-    rights: &'a [u16; 510],
-    statements: usize,
-    table: &'a [u16; 255],
-    a: u16,
-    b: u16,
-) -> bool
-    ensures keeps { result ≡ apart_by (rep_at table.now) (differences_of (statements_from kinds.now lefts.now rights.now statements)) a b }
+pub fn apart(statements: &Statements, table: &[u16; 255], a: u16, b: u16) -> bool
+    ensures keeps { result ≡ apart_by (rep_at table.now) (differences_of (statements_in statements.now)) a b }
 {
-    let mut k: usize = 0;
-    while k < statements {
-        if apart_at(kinds, lefts, rights, table, k, a, b) {
+    for k in 0..statements.count {
+        if apart_at(statements, table, k, a, b) {
             return true;
         }
-        k += 1;
     }
     false
 }

@@ -3,62 +3,52 @@ ghost use Rattle.std.specs.Prelude.{◌≡◌, ◌<◌, ◌≤◌};
 ghost use Rattle.meaning.specs.Closing.{upto};
 ghost use Rattle.closing.specs.Steps.{state_step, Read, SideClass, difference_at, ClashAt, both_same, either_same, apart_at};
 
-use super::table::{at_row, unite, wide};
+use super::table::{at_row, unite};
+use columns::Statements;
 
 // The rows of statement k get one representative, where it is an equation.
-fn state<'a>(
-    kinds: &'a [u8; 510],
-    lefts: &'a [u16; 510],
-    rights: &'a [u16; 510],
-    table: &mut [u16; 255],
-    k: usize,
-)
+fn state(statements: &Statements, table: &mut [u16; 255], k: usize)
     requires { k < 510 }
-    ensures { table.new ≡ state_step kinds.now lefts.now rights.now k table.old }
+    ensures { table.new ≡ state_step statements.now.kinds.now statements.now.lefts.now statements.now.rights.now k table.old }
 {
-    if kinds[k] == 2 {
-        unite(table, wide(lefts[k]), wide(rights[k]));
+    if statements.kinds[k] == 2 {
+        unite(
+            table,
+            usize::from(statements.lefts[k]),
+            usize::from(statements.rights[k]),
+        );
     }
 }
 
 // The rows of each stated equation get one representative.
-pub(crate) fn join_stated<'a>(
-    kinds: &'a [u8; 510],
-    lefts: &'a [u16; 510],
-    rights: &'a [u16; 510],
-    statements: usize,
-    table: &mut [u16; 255],
-)
-    requires { statements ≤ 510 }
-    ensures { table.new ≡ upto statements (state_step kinds.now lefts.now rights.now) table.old }
+pub(crate) fn join_stated(statements: &Statements, table: &mut [u16; 255])
+    requires { statements.now.count ≤ 510 }
+    ensures { table.new ≡ upto statements.now.count (state_step statements.now.kinds.now statements.now.lefts.now statements.now.rights.now) table.old }
 {
-    let mut k: usize = 0;
-    while k < statements {
-        state(kinds, lefts, rights, table, k);
-        k += 1;
+    for k in 0..statements.count {
+        state(statements, table, k);
     }
 }
 
 // What a column holds for statement k, and 0 past its end.
+// No enum: the column holds numbers, of which 2 is an equation. Beside side_at and at_row: arrays of three kinds, and the one line is the contract.
 fn kind_at(kinds: &[u8; 510], k: usize) -> u8
     ensures { Read kinds.now k result }
 {
-    let all: &[u8] = kinds;
-    if k < all.len() { all[k] } else { 0 }
+    if k < kinds.len() { kinds[k] } else { 0 }
 }
 
 fn side_at(sides: &[u16; 510], k: usize) -> u16
     ensures { Read sides.now k result }
 {
-    let all: &[u16] = sides;
-    if k < all.len() { all[k] } else { 0 }
+    if k < sides.len() { sides[k] } else { 0 }
 }
 
 // The representative of a side of statement k.
-fn side_class<'a>(sides: &'a [u16; 510], table: &'a [u16; 255], k: usize) -> u16
+fn side_class(sides: &[u16; 510], table: &[u16; 255], k: usize) -> u16
     ensures { SideClass sides.now table.now k result }
 {
-    at_row(table, wide(side_at(sides, k)))
+    at_row(table, usize::from(side_at(sides, k)))
 }
 
 // 1 where statement k is a difference, and 0 where it is an equation.
@@ -69,58 +59,44 @@ pub(crate) fn difference_at(kinds: &[u8; 510], k: usize) -> u16
 }
 
 // Whether statement k is a difference whose sides have one representative.
-pub(crate) fn clash_at<'a>(
-    kinds: &'a [u8; 510],
-    lefts: &'a [u16; 510],
-    rights: &'a [u16; 510],
-    table: &'a [u16; 255],
-    k: usize,
-) -> bool
-    ensures { ClashAt kinds.now lefts.now rights.now table.now k result }
+pub(crate) fn clash_at(statements: &Statements, table: &[u16; 255], k: usize) -> bool
+    ensures { ClashAt statements.now.kinds.now statements.now.lefts.now statements.now.rights.now table.now k result }
 {
-    if kind_at(kinds, k) == 2 {
+    if kind_at(statements.kinds, k) == 2 {
         return false;
     }
-    side_class(lefts, table, k) == side_class(rights, table, k)
+    side_class(statements.lefts, table, k) == side_class(statements.rights, table, k)
 }
 
 fn both(a: u16, b: u16, p: u16, q: u16) -> bool
     ensures { result ≡ both_same a b p q }
 {
-    if a != p {
-        return false;
-    }
-    b == q
+    a == p && b == q
 }
 
 fn either(a: u16, b: u16, p: u16, q: u16) -> bool
     ensures { result ≡ either_same a b p q }
 {
-    if both(a, b, p, q) {
-        return true;
-    }
-    both(b, a, p, q)
+    both(a, b, p, q) || both(b, a, p, q)
 }
 
 // Whether statement k is a difference whose sides have the representatives a and b, in either orientation.
-pub(crate) fn apart_at<'a>(
-    kinds: &'a [u8; 510],
-    lefts: &'a [u16; 510],
-    rights: &'a [u16; 510],
-    table: &'a [u16; 255],
+pub(crate) fn apart_at(
+    statements: &Statements,
+    table: &[u16; 255],
     k: usize,
     a: u16,
     b: u16,
 ) -> bool
-    ensures { result ≡ apart_at kinds.now lefts.now rights.now table.now k a b }
+    ensures { result ≡ apart_at statements.now.kinds.now statements.now.lefts.now statements.now.rights.now table.now k a b }
 {
-    if kind_at(kinds, k) == 2 {
+    if kind_at(statements.kinds, k) == 2 {
         return false;
     }
     either(
         a,
         b,
-        side_class(lefts, table, k),
-        side_class(rights, table, k),
+        side_class(statements.lefts, table, k),
+        side_class(statements.rights, table, k),
     )
 }

@@ -3,32 +3,11 @@ ghost use Rattle.std.specs.Prelude.{◌≡◌, map, ◌<◌, ◌≤◌, length};
 ghost use Rattle.meaning.specs.Equality.{rep_at};
 ghost use Rattle.meaning.specs.Closing.{move, total, unite as united, count as numbers};
 
-pub fn wide(x: u16) -> usize
-    ensures { (result ≡ x) × (result < 65536) }
-{
-    x as usize
-}
-
-pub fn wide8(x: u8) -> usize
-    ensures { result ≡ x }
-{
-    x as usize
-}
-
 // What a table holds at a row, and 0 past its end.
 pub fn at_row(table: &[u16; 255], row: usize) -> u16
     ensures { result ≡ rep_at table.now row }
 {
-    let places: &[u16] = table;
-    if row < places.len() { places[row] } else { 0 }
-}
-
-// How many places a table has.
-pub fn places(table: &[u16; 255]) -> usize
-    ensures { (result ≡ 255) × (length table.now ≡ 255) }
-{
-    let all: &[u16] = table;
-    all.len()
+    if row < table.len() { table[row] } else { 0 }
 }
 
 // Each row represents itself.
@@ -36,10 +15,8 @@ pub(crate) fn own() -> [u16; 255]
     ensures { result ≡ numbers 255 0 }
 {
     let mut t = [0; 255];
-    let mut i: usize = 0;
-    while i < 255 {
+    for i in 0..255 {
         t[i] = i as u16;
-        i += 1;
     }
     t
 }
@@ -54,11 +31,8 @@ fn moved(lo: u16, hi: u16, x: u16) -> u16
 fn move_class(table: &mut [u16; 255], lo: u16, hi: u16)
     ensures { table.new ≡ map (move lo hi) table.old }
 {
-    let n = places(table);
-    let mut r: usize = 0;
-    while r < n {
+    for r in 0..255 {
         table[r] = moved(lo, hi, table[r]);
-        r += 1;
     }
 }
 
@@ -81,10 +55,8 @@ pub fn sum(table: &[u16; 255], rows: usize) -> usize
     ensures { result ≡ total rows (rep_at table.now) }
 {
     let mut s: usize = 0;
-    let mut r: usize = 0;
-    while r < rows {
-        s += wide(table[r]);
-        r += 1;
+    for r in 0..rows {
+        s += usize::from(table[r]);
     }
     s
 }

@@ -2,89 +2,111 @@
 #![tactic(auto)]
 
 ghost use Rattle.std.specs.Prelude.{true, ◌≡◌, ◌+◌, ◌*◌, ◌≤◌, ◌<◌, length};
-ghost use Rattle.columns.specs.Fit.{Decides, Every, PlacedAt, NamedAt, PatternAt, Laid, Written, FitContext, FitClause};
+ghost use Rattle.columns.specs.Fit.{Decides, Every, PlacedAt, NamedAt, PatternAt};
+ghost use Rattle.columns.specs.Lent.{LaidIn, WrittenIn, Fits, FitsRule};
 
-fn wide(x: u16) -> usize
-    ensures { result ≡ x }
-{
-    x as usize
+// The rows of a context: row i is a symbol over its first counts[i] places of args, of which each row has four.
+// Parallel arrays: the search over them promises what it does for any columns that are lent.
+#[derive(Clone, Copy)]
+pub struct Terms<'a> {
+    pub symbols: &'a [u16; 255],
+    pub counts: &'a [u8; 255],
+    pub args: &'a [u16; 1020],
+    pub rows: usize,
 }
 
-fn wide8(x: u8) -> usize
-    ensures { result ≡ x }
-{
-    x as usize
+// The statements of a context: an equation or a difference of two rows.
+#[derive(Clone, Copy)]
+pub struct Statements<'a> {
+    pub kinds: &'a [u8; 510],
+    pub lefts: &'a [u16; 510],
+    pub rights: &'a [u16; 510],
+    pub count: usize,
+}
+
+#[derive(Clone, Copy)]
+pub struct Context<'a> {
+    pub terms: Terms<'a>,
+    pub statements: Statements<'a>,
+}
+
+// The pattern rows of a rule: a variable, whose number is its head, or a symbol over earlier pattern rows.
+#[derive(Clone, Copy)]
+pub struct Patterns<'a> {
+    pub kinds: &'a [u8; 64],
+    pub heads: &'a [u16; 64],
+    pub counts: &'a [u8; 64],
+    pub args: &'a [u16; 256],
+    pub rows: usize,
+}
+
+// The literals of a rule: an equation or a difference of two pattern rows.
+#[derive(Clone, Copy)]
+pub struct Literals<'a> {
+    pub signs: &'a [u8; 16],
+    pub lefts: &'a [u16; 16],
+    pub rights: &'a [u16; 16],
+    pub count: usize,
+}
+
+#[derive(Clone, Copy)]
+pub struct Rule<'a> {
+    pub patterns: Patterns<'a>,
+    pub literals: Literals<'a>,
 }
 
 // Whether row i has at most four arguments, each an earlier row.
-fn placed<'a>(counts: &'a [u8], args: &'a [u16], i: usize) -> bool
+fn placed(counts: &[u8], args: &[u16], i: usize) -> bool
     requires i_in_bounds { i < length counts.now }
     requires i_in_bounds_2 { i * 4 + 4 ≤ length args.now }
     ensures { Decides result (PlacedAt counts.now args.now i) }
 {
-    let n = wide8(counts[i]);
+    let n = usize::from(counts[i]);
     if 4 < n {
         return false;
     }
-    let mut k = 0;
-    while k < n {
-        if i <= wide(args[i * 4 + k]) {
+    for k in 0..n {
+        if i <= usize::from(args[i * 4 + k]) {
             return false;
         }
-        k += 1;
     }
     true
 }
 
-fn rows_placed<'a>(counts: &'a [u8], args: &'a [u16], rows: usize) -> bool
+fn rows_placed(counts: &[u8], args: &[u16], rows: usize) -> bool
     requires rows_in_bounds { rows ≤ length counts.now }
     requires rows_in_bounds_2 { rows * 4 ≤ length args.now }
     ensures { Decides result (Every rows (PlacedAt counts.now args.now)) }
 {
-    let mut i = 0;
-    while i < rows {
+    for i in 0..rows {
         if !placed(counts, args, i) {
             return false;
         }
-        i += 1;
     }
     true
 }
 
 // Whether the first n pairs name rows below a limit.
-fn named<'a>(lefts: &'a [u16], rights: &'a [u16], n: usize, limit: usize) -> bool
+fn named(lefts: &[u16], rights: &[u16], n: usize, limit: usize) -> bool
     requires n_in_bounds { n ≤ length lefts.now }
     requires n_in_bounds_2 { n ≤ length rights.now }
     ensures { Decides result (Every n (NamedAt lefts.now rights.now limit)) }
 {
-    let mut j = 0;
-    while j < n {
-        if limit <= wide(lefts[j]) {
+    for j in 0..n {
+        if limit <= usize::from(lefts[j]) || limit <= usize::from(rights[j]) {
             return false;
         }
-        if limit <= wide(rights[j]) {
-            return false;
-        }
-        j += 1;
     }
     true
 }
 
-fn variable_fits(head: u16) -> bool
-    ensures { Decides result (head < 4) }
-{
-    if head < 4 {
-        return true;
-    }
-    false
-}
-
 // Whether pattern row i is a variable, 0 to 3, or a symbol with at most four arguments, each an earlier pattern row.
-fn pattern_placed<'a>(
-    kinds: &'a [u8; 64],
-    heads: &'a [u16; 64],
-    counts: &'a [u8],
-    args: &'a [u16],
+// No struct: what is asked of the places is known of slices.
+fn pattern_placed(
+    kinds: &[u8; 64],
+    heads: &[u16; 64],
+    counts: &[u8],
+    args: &[u16],
     i: usize,
 ) -> bool
     requires i_bound { i < 64 }
@@ -93,16 +115,17 @@ fn pattern_placed<'a>(
     ensures { Decides result (PatternAt kinds.now heads.now counts.now args.now i) }
 {
     if kinds[i] == 4 {
-        return variable_fits(heads[i]);
+        heads[i] < 4
+    } else {
+        placed(counts, args, i)
     }
-    placed(counts, args, i)
 }
 
-fn patterns_placed<'a>(
-    kinds: &'a [u8; 64],
-    heads: &'a [u16; 64],
-    counts: &'a [u8],
-    args: &'a [u16],
+fn patterns_placed(
+    kinds: &[u8; 64],
+    heads: &[u16; 64],
+    counts: &[u8],
+    args: &[u16],
     patterns: usize,
 ) -> bool
     requires patterns_bound { patterns ≤ 64 }
@@ -110,63 +133,67 @@ fn patterns_placed<'a>(
     requires patterns_in_bounds_2 { patterns * 4 ≤ length args.now }
     ensures { Decides result (Every patterns (PatternAt kinds.now heads.now counts.now args.now)) }
 {
-    let mut i = 0;
-    while i < patterns {
+    for i in 0..patterns {
         if !pattern_placed(kinds, heads, counts, args, i) {
             return false;
         }
-        i += 1;
     }
     true
 }
 
-pub fn fit_context<'a>(
-    symbols: &'a [u16; 255],
-    counts: &'a [u8; 255],
-    args: &'a [u16; 1020],
-    rows: usize,
-    kinds: &'a [u8; 510],
-    lefts: &'a [u16; 510],
-    rights: &'a [u16; 510],
-    statements: usize,
-) -> bool
-    ensures fit { Decides result (FitContext symbols.now counts.now args.now rows kinds.now lefts.now rights.now statements) }
-    ensures laid { result ≡ true → Laid counts.now args.now rows }
+pub fn fit_context(context: &Context) -> bool
+    ensures fit { Decides result (Fits context.now) }
+    ensures laid { result ≡ true → LaidIn context.now.terms }
 {
+    let Terms {
+        counts,
+        args,
+        rows,
+        ..
+    } = context.terms;
+    let Statements {
+        lefts,
+        rights,
+        count,
+        ..
+    } = context.statements;
     if 255 < rows {
         return false;
     }
-    if 510 < statements {
+    if 510 < count {
         return false;
     }
     if !rows_placed(counts, args, rows) {
         return false;
     }
-    named(lefts, rights, statements, rows)
+    named(lefts, rights, count, rows)
 }
 
-pub fn fit_clause<'a>(
-    kinds: &'a [u8; 64],
-    heads: &'a [u16; 64],
-    counts: &'a [u8; 64],
-    args: &'a [u16; 256],
-    patterns: usize,
-    signs: &'a [u8; 16],
-    lefts: &'a [u16; 16],
-    rights: &'a [u16; 16],
-    literals: usize,
-) -> bool
-    ensures fit { Decides result (FitClause kinds.now heads.now counts.now args.now patterns signs.now lefts.now rights.now literals) }
-    ensures laid { result ≡ true → Written kinds.now heads.now counts.now args.now patterns }
+pub fn fit_clause(rule: &Rule) -> bool
+    ensures fit { Decides result (FitsRule rule.now) }
+    ensures laid { result ≡ true → WrittenIn rule.now.patterns }
 {
-    if 64 < patterns {
+    let Patterns {
+        kinds,
+        heads,
+        counts,
+        args,
+        rows,
+    } = rule.patterns;
+    let Literals {
+        lefts,
+        rights,
+        count,
+        ..
+    } = rule.literals;
+    if 64 < rows {
         return false;
     }
-    if 16 < literals {
+    if 16 < count {
         return false;
     }
-    if !patterns_placed(kinds, heads, counts, args, patterns) {
+    if !patterns_placed(kinds, heads, counts, args, rows) {
         return false;
     }
-    named(lefts, rights, literals, patterns)
+    named(lefts, rights, count, rows)
 }

@@ -3,11 +3,21 @@
 #![tactic(auto)]
 
 ghost use Rattle.std.specs.Prelude.{◌≡◌, ◌+◌, ◌*◌, ◌<◌, replicate};
-ghost use Rattle.meaning.specs.Columns.{context_from};
 ghost use Rattle.meaning.specs.Following.{differ_by};
-ghost use Rattle.differing.specs.Knowing.{mark_of, ClosedBy, Knows};
+ghost use Rattle.columns.specs.Lent.{context_in};
+ghost use Rattle.differing.specs.Knowing.{mark_of, ClosedIn, Knows};
 
-// A memo that tells nothing.
+use columns::Context;
+
+// A context with the closing and the marks of its busy classes.
+#[derive(Clone, Copy)]
+pub struct Classed<'a> {
+    pub context: Context<'a>,
+    pub closed: &'a [u16; 255],
+    pub busy: &'a [u8; 255],
+}
+
+// A memo that tells nothing: a byte for each pair, 0 where nothing is known, 1 for no and 2 for yes. No Option: callers lend it as bytes.
 pub fn unknown() -> [u8; 65025]
     ensures { result ≡ replicate 65025 0 }
 {
@@ -28,26 +38,12 @@ fn place(x: usize, y: usize) -> usize
 }
 
 // Of two rows: what the memo tells, and else what the closing with their equation says, which is noted.
-fn look<'a>(
-    symbols: &'a [u16; 255],
-    counts: &'a [u8; 255],
-    args: &'a [u16; 1020],
-    rows: usize,
-    kinds: &'a [u8; 510],
-    lefts: &'a [u16; 510],
-    rights: &'a [u16; 510],
-    statements: usize,
-    closed: &'a [u16; 255],
-    busy: &'a [u8; 255],
-    known: &mut [u8; 65025],
-    x: usize,
-    y: usize,
-) -> bool
-    requires closed_by { ClosedBy symbols.now counts.now args.now rows kinds.now lefts.now rights.now statements closed.now busy.now }
-    requires knows { Knows (context_from symbols.now counts.now args.now rows kinds.now lefts.now rights.now statements) known.old }
-    requires x_lt_rows { (x < rows) × (y < rows) }
-    ensures value { result ≡ differ_by (context_from symbols.now counts.now args.now rows kinds.now lefts.now rights.now statements) x y }
-    ensures knows_2 { Knows (context_from symbols.now counts.now args.now rows kinds.now lefts.now rights.now statements) known.new }
+fn look(classed: &Classed, known: &mut [u8; 65025], x: usize, y: usize) -> bool
+    requires closed_by { ClosedIn classed.now }
+    requires knows { Knows (context_in classed.now.context) known.old }
+    requires x_lt_rows { (x < classed.now.context.terms.rows) × (y < classed.now.context.terms.rows) }
+    ensures value { result ≡ differ_by (context_in classed.now.context) x y }
+    ensures knows_2 { Knows (context_in classed.now.context) known.new }
 {
     let k = place(x, y);
     let told = known[k];
@@ -57,34 +53,19 @@ fn look<'a>(
     if told == 2 {
         return true;
     }
-    let b = further::clashes_ready(
-        symbols, counts, args, rows, kinds, lefts, rights, statements, closed, busy, x, y,
-    );
+    let b = further::clashes_ready(&classed.context, classed.closed, classed.busy, x, y);
     known[k] = mark(b);
     b
 }
 
 // A number from the number of rows on is that of a term outside the table, which differs from nothing. The lower class is asked first.
-pub fn ask<'a>(
-    symbols: &'a [u16; 255],
-    counts: &'a [u8; 255],
-    args: &'a [u16; 1020],
-    rows: usize,
-    kinds: &'a [u8; 510],
-    lefts: &'a [u16; 510],
-    rights: &'a [u16; 510],
-    statements: usize,
-    closed: &'a [u16; 255],
-    busy: &'a [u8; 255],
-    known: &mut [u8; 65025],
-    n: u32,
-    m: u32,
-) -> bool
-    requires closed_by { ClosedBy symbols.now counts.now args.now rows kinds.now lefts.now rights.now statements closed.now busy.now }
-    requires knows { Knows (context_from symbols.now counts.now args.now rows kinds.now lefts.now rights.now statements) known.old }
-    ensures value { result ≡ differ_by (context_from symbols.now counts.now args.now rows kinds.now lefts.now rights.now statements) n m }
-    ensures knows_2 { Knows (context_from symbols.now counts.now args.now rows kinds.now lefts.now rights.now statements) known.new }
+pub fn ask(classed: &Classed, known: &mut [u8; 65025], n: u32, m: u32) -> bool
+    requires closed_by { ClosedIn classed.now }
+    requires knows { Knows (context_in classed.now.context) known.old }
+    ensures value { result ≡ differ_by (context_in classed.now.context) n m }
+    ensures knows_2 { Knows (context_in classed.now.context) known.new }
 {
+    let rows = classed.context.terms.rows;
     let x = n as usize;
     let y = m as usize;
     if rows <= x {
@@ -94,12 +75,7 @@ pub fn ask<'a>(
         return false;
     }
     if y < x {
-        return look(
-            symbols, counts, args, rows, kinds, lefts, rights, statements, closed, busy, known, y,
-            x,
-        );
+        return look(classed, known, y, x);
     }
-    look(
-        symbols, counts, args, rows, kinds, lefts, rights, statements, closed, busy, known, x, y,
-    )
+    look(classed, known, x, y)
 }

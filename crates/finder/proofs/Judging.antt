@@ -30,11 +30,10 @@ use Rattle.hunting.specs.Laid.{Lays}
 use Rattle.hunting.specs.declared.Laid.{Laid}
 use Rattle.hunting.proofs.Laying.{lays_sound, hunt-done}
 use Rattle.ruling.specs.Claims.{rows_in, said_in, patterns_in, literals_in, context_in, clause_in, Rules}
-use Rattle.ruling.specs.declared.Answer.TheVariants as A
+use Rattle.std.specs.Prelude.{Ok, Err}
 use Rattle.ruling.specs.declared.Ruled.{Ruled}
-use Rattle.ruling.proofs.Saying.{part-long}
 use Rattle.ruling.proofs.Ruling.{refused-answers}
-use Rattle.finder.specs.Claims.{refused_with, answered_with, Finds}
+use Rattle.finder.specs.Claims.{refused_with, answered_with, Prepared, Finds}
 use Rattle.replies.specs.declared.Outcome.{Outcome}
 use Rattle.replies.specs.declared.Outcome.TheVariants as O
 use Rattle.replies.specs.declared.Reply.{Reply}
@@ -78,16 +77,17 @@ no-unfit text places p = go p.reply p.replies p.told
 -- ---- the reply to a text
 
 module _ (text : List ℕ) (p : Ruled) (rules : Rules text p) where
-  pub find-refused : (x : Refusal) → p.answer ≡ A.Refused x → (y : Reply) → y ≡ refused_with x → Finds text y
-  unfolding refused_with places_of
-  find-refused x e y q =
-      rw q record { reply = refused (meant x); replies = refused-answers text p rules x e; told = refl; places = refl }
+  pub prepare-refused : (x : Refusal) → p.answer ≡ Err x → Replies narrow text (refused (meant x))
+  prepare-refused = refused-answers text p rules
+
+  pub prepare-laid : p.answer ≡ Ok tt → (l : Laid) → Lays (rows_in p.told) (said_in p.told) (patterns_in p.told) (literals_in p.told) p.table l → Prepared text l
+  prepare-laid e l h = record { read = p; rules = rules; ready = e; lays = h }
 
   -- what was laid out of it is searched
-  pub find-found : p.answer ≡ A.Ready → (l : Laid) → Lays (rows_in p.told) (said_in p.told) (patterns_in p.told) (literals_in p.told) p.table l
+  found-finds : p.answer ≡ Ok tt → (l : Laid) → Lays (rows_in p.told) (said_in p.told) (patterns_in p.told) (literals_in p.told) p.table l
       → (x : Searched) → x ≡ answer_of (found_by (H.context_in l) l.table (H.rule_in l)) → (y : Reply) → y ≡ answered_with x.kind x.places → Finds text y
   unfolding answer_of places_of
-  find-found e l h x q y w =
+  found-finds e l h x q y w =
       let z : x ≡ answer_of (found_by (context_in p.told) p.table (clause_in p.told)) =
       hunt-done (rows_in p.told) (said_in p.told) (patterns_in p.told) (literals_in p.told) p.table (told-ready text p rules) l h x q in
       rw (w, z) (go (found_by (context_in p.told) p.table (clause_in p.told)) (ready-replies text p rules e))
@@ -96,8 +96,17 @@ module _ (text : List ℕ) (p : Ruled) (rules : Rules text p) where
       go (found a) h = record { reply = breach a; replies = h; told = refl; places = refl }
       go nothing h = record { reply = none; replies = h; told = refl; places = refl }
 
-  pub find-sound : (l : Laid) → Lays (rows_in p.told) (said_in p.told) (patterns_in p.told) (literals_in p.told) p.table l → H.Sound l
-  find-sound l h = lays_sound (rows_in p.told) (said_in p.told) (patterns_in p.told) (literals_in p.told) p.table (told-ready text p rules) l h
+pub find-refused : (text : List ℕ) (x : Refusal) → Replies narrow text (refused (meant x)) → (y : Reply) → y ≡ refused_with x → Finds text y
+unfolding refused_with places_of
+find-refused text x h y q = rw q record { reply = refused (meant x); replies = h; told = refl; places = refl }
+
+module _ (text : List ℕ) (l : Laid) (w : Prepared text l) where
+  pub find-found : (x : Searched) → x ≡ answer_of (found_by (H.context_in l) l.table (H.rule_in l)) → (y : Reply) → y ≡ answered_with x.kind x.places → Finds text y
+  find-found = found-finds text w.read w.rules w.ready l w.lays
+
+  pub find-sound : H.Sound l
+  find-sound =
+      lays_sound (rows_in w.read.told) (said_in w.read.told) (patterns_in w.read.told) (literals_in w.read.told) w.read.table (told-ready text w.read w.rules) l w.lays
 
 -- ---- one reply
 
@@ -123,4 +132,4 @@ finds-one text r s p q =
     let l : r.places ≡ s.places = p.places ∙ ap places_of e ∙ sym q.places in
     ap₂ (λ (x : Outcome) (y : List ℕ). record { outcome = x; places = y }) o l
 
-pub ruleset mine = (rules, knows_start, answered-breach, answered-clear, answered-unfit, told-filled, told-ready, part-long, find-refused, find-sound, find-found)
+pub ruleset mine = (rules, knows_start, answered-breach, answered-clear, answered-unfit, told-filled, told-ready, prepare-refused, prepare-laid, find-refused, find-sound, find-found)

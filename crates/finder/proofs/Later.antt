@@ -15,7 +15,7 @@ use Rattle.meaning.specs.Equality.{rep_at, Consistent}
 use Rattle.meaning.specs.Rules.{Clause, variables, Before, Found, found, nothing}
 use Rattle.meaning.specs.Text.{narrow, Read}
 use Rattle.meaning.specs.Replies as M
-use Rattle.meaning.specs.Replies.{breach, none, refused, reply_of, places_of}
+use Rattle.meaning.specs.Replies.{breach, none, refused, reply_of, places_of, Replies}
 use Rattle.meaning.specs.Formed.{Formed}
 use Rattle.meaning.specs.Listing.{OwnBreach}
 use Rattle.meaning.specs.Following.{differ_by}
@@ -37,13 +37,13 @@ use Rattle.hunting.specs.Laid.{Lays}
 use Rattle.hunting.specs.declared.Laid.{Laid}
 use Rattle.hunting.proofs.Laying.{after-done}
 use Rattle.ruling.specs.Claims.{rows_in, said_in, patterns_in, literals_in, context_in, clause_in, Rules}
-use Rattle.ruling.specs.declared.Answer.TheVariants as A
+use Rattle.std.specs.Prelude.{Ok}
 use Rattle.ruling.specs.declared.Ruled.{Ruled}
 use Rattle.ruling.proofs.Saying.{told_fit}
-use Rattle.ruling.proofs.Ruling.{found-never, Stands, ready-stands, ready-consistent, refused-answers}
-use Rattle.finder.specs.Claims.{refused_with, answered_with}
+use Rattle.ruling.proofs.Ruling.{found-never, Stands, ready-stands, ready-consistent}
+use Rattle.finder.specs.Claims.{refused_with, answered_with, Prepared}
 use Rattle.finder.specs.Later.{FollowsIn, FollowsTo, refuses, follows, Follows}
-use Rattle.finder.proofs.Standing.{told-filled, told-ready, ready-replies}
+use Rattle.finder.proofs.Standing.{told-ready, ready-replies}
 use Rattle.finder.proofs.Judging.{find-sound, told-one}
 
 module _ (text : List ℕ) (p : Ruled) (rules : Rules text p) where
@@ -62,27 +62,17 @@ module _ (text : List ℕ) (p : Ruled) (rules : Rules text p) where
       own : (a : List ℕ) → OwnBreach c k a ↔ Sought (differ_by c) c.rows rep 65536 k a
       own a = own-sought c k formed free rep rules.closed.rows 65536 (omega (arith, length-rows (rows_in p.told), (told_fit text p.told rules.told).rows_few)) a
 
-  pub ready-follows : p.answer ≡ A.Ready → (after : List ℕ) → FollowsTo text after (reply_of (later_by c p.table k after))
+  pub ready-follows : p.answer ≡ Ok tt → (after : List ℕ) → FollowsTo text after (reply_of (later_by c p.table k after))
   ready-follows e after =
       let w : Stands text p.told = ready-stands text p rules e in
       follows w.what w.whole (found_by c p.table k) (ready-replies text p rules e) (later_by c p.table k after)
       (subst₂ (λ (x : Context) (y : Clause). FollowsIn x y after (later_by c p.table k after)) w.context w.clause (said-follows w.formed (ready-consistent text p rules e) after))
 
-  pub next-refused : (x : Refusal) → p.answer ≡ A.Refused x → (after : List ℕ) (y : Reply) → y ≡ refused_with x → Follows text after y
-  unfolding refused_with places_of
-  next-refused x e after y q =
-      rw q record {
-        reply = refused (meant x);
-        replies = refuses (meant x) (refused-answers text p rules x e);
-        told = refl;
-        places = refl;
-      }
-
-  pub next-found : p.answer ≡ A.Ready → (l : Laid) → Lays (rows_in p.told) (said_in p.told) (patterns_in p.told) (literals_in p.told) p.table l
+  found-follows : p.answer ≡ Ok tt → (l : Laid) → Lays (rows_in p.told) (said_in p.told) (patterns_in p.told) (literals_in p.told) p.table l
       → (after : List ℕ) (x : Searched) → x ≡ answer_of (later_by (H.context_in l) l.table (H.rule_in l) after)
       → (y : Reply) → y ≡ answered_with x.kind x.places → Follows text after y
   unfolding answer_of places_of
-  next-found e l h after x q y w =
+  found-follows e l h after x q y w =
       let z : x ≡ answer_of (later_by c p.table k after) =
       after-done (rows_in p.told) (said_in p.told) (patterns_in p.told) (literals_in p.told) p.table (told-ready text p rules) l h after x q in
       rw (w, z) (go (later_by c p.table k after) (ready-follows e after))
@@ -90,6 +80,14 @@ module _ (text : List ℕ) (p : Ruled) (rules : Rules text p) where
       go : (f : Found) → FollowsTo text after (reply_of f) → Follows text after (answered_with (answer_of f).kind (answer_of f).places)
       go (found a) h = record { reply = breach a; replies = h; told = refl; places = refl }
       go nothing h = record { reply = none; replies = h; told = refl; places = refl }
+
+pub next-refused : (text : List ℕ) (x : Refusal) → Replies narrow text (refused (meant x)) → (after : List ℕ) (y : Reply) → y ≡ refused_with x → Follows text after y
+unfolding refused_with places_of
+next-refused text x h after y q = rw q record { reply = refused (meant x); replies = refuses (meant x) h; told = refl; places = refl }
+
+pub next-found : (text : List ℕ) (l : Laid) → Prepared text l → (after : List ℕ) (x : Searched) → x ≡ answer_of (later_by (H.context_in l) l.table (H.rule_in l) after)
+    → (y : Reply) → y ≡ answered_with x.kind x.places → Follows text after y
+next-found text l w = found-follows text w.read w.rules w.ready l w.lays
 
 -- ---- one reply
 
@@ -110,4 +108,4 @@ follows-one text after r s p q =
     let o : r.outcome ≡ s.outcome = told-one r.outcome s.outcome (p.told ∙ ap told_of e ∙ sym q.told) in
     ap₂ (λ (x : Outcome) (y : List ℕ). record { outcome = x; places = y }) o (p.places ∙ ap places_of e ∙ sym q.places)
 
-pub ruleset mine = (rules, knows_start, told-filled, told-ready, next-refused, find-sound, next-found)
+pub ruleset mine = (rules, knows_start, next-refused, find-sound, next-found)

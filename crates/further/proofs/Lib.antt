@@ -3,5 +3,4 @@ pub mod Answers
 pub mod Wider
 pub mod Controls
 mod Turns
-mod Tests
 mod Raising

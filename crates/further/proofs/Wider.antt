@@ -27,8 +27,8 @@ use Rattle.meaning.proofs.FollowingNumbers.{differ_by-rows, differ_by-outside, d
 use Rattle.meaning.proofs.Built.{length-rows}
 use Rattle.columns.specs.Fit.{FitContext}
 use Rattle.closing.specs.Claims.{clashing}
-use Rattle.closing.specs.declared.Contradiction.{Contradiction}
-use Rattle.closing.specs.declared.Contradiction.TheVariants.{First, Clear}
+use Rattle.std.specs.Prelude.{Option, Some, None}
+use Rattle.std.specs.Option.{is_some}
 use Rattle.further.specs.Claims.{Orderly, Startable, standing_in, ClashesWith}
 use Rattle.further.specs.Marks.{busy_by, raise, Marks}
 use Rattle.further.proofs.Standing.{standing-adds, promise-orderly}
@@ -41,12 +41,9 @@ free-consistent c fit rep r e m w =
 
 -- ---- the sides of some difference have one representative
 
-module _ (rep : ℕ → ℕ) (ds : List (ℕ × ℕ)) (r : Contradiction) (e : clashing r ≡ clash_of rep ds) where
-  pub follows-yes : (n : ℕ) → r ≡ First n → true ≡ follows_by rep ds
-  follows-yes n q = sym (follows-first rep ds n (sym e ∙ ap clashing q))
-
-  pub follows_no : r ≡ Clear → false ≡ follows_by rep ds
-  follows_no q = sym (follows-clear rep ds (sym e ∙ ap clashing q))
+pub follows-is : (rep : ℕ → ℕ) (ds : List (ℕ × ℕ)) (r : Option ℕ) (b : Bool) → clashing r ≡ clash_of rep ds → b ≡ is_some r → b ≡ follows_by rep ds
+follows-is rep ds (Some n) b e q = q ∙ sym (follows-first rep ds n (sym e))
+follows-is rep ds None b e q = q ∙ sym (follows-clear rep ds (sym e))
 
 -- ---- a class that is not marked
 
@@ -156,8 +153,7 @@ module _ (symbols counts args : List ℕ) (n : ℕ) (kinds lefts rights : List �
 
 pub ruleset mine = (
   rules,
-  follows-yes,
-  follows_no,
+  follows-is,
   not-true,
   not-false,
   clashes-first,

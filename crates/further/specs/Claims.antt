@@ -2,12 +2,15 @@
 --     Orderly, Startable     a table, and two rows, from which one can close further
 --     standing, standing_in   what a table says, as statements: each row is the same as its representative
 --     FitRows                rows alone that are well-formed
+--     FitsRows, ClosesFrom, ClashesIn   the same of rows, or of a context, that are lent
 --     Underway, Settled      passes over the rows, from a table on
 --     Furthers, ClosesWith   the answer and the table of closing further, by cases
 --     ClashesWith            what the test of two rows says
 -- Assumes nothing.
 use Rattle.std.specs.Prelude.{Bool, List, [], ◌∷◌, ◌≡◌, ℕ, zero, suc, ◌≤◌, ◌<◌, length}
 use Rattle.meaning.specs.Context.{Row, Statement, same, Context}
+use Rattle.columns.specs.declared.Terms.{Terms}
+use Rattle.columns.specs.declared.Context.{Context as Lent}
 use Rattle.meaning.specs.Equality.{rep_at, Promise}
 use Rattle.meaning.specs.Formed.{Ordered}
 use Rattle.meaning.specs.Columns.{rows_from, context_from}
@@ -80,3 +83,16 @@ pub record ClosesWith (symbols counts args : List ℕ) (n : ℕ) (kinds lefts ri
 pub record ClashesWith (symbols counts args : List ℕ) (n : ℕ) (kinds lefts rights : List ℕ) (m : ℕ) (t busy : List ℕ) (x y : ℕ) (r : Bool) : Type 0 where
   pub wider : FitContext symbols counts args n kinds lefts rights m → Promise (context_from symbols counts args n kinds lefts rights m) 255 t
       → Marks (context_from symbols counts args n kinds lefts rights m) t busy → r ≡ differ_by (context_from symbols counts args n kinds lefts rights m) x y
+
+abbrev pub FitsRows : Terms → Type 0
+FitsRows t = FitRows t.symbols.now t.counts.now t.args.now t.rows
+
+abbrev pub ClosesFrom : Lent → List ℕ → ℕ → ℕ → Classes → Type 0
+ClosesFrom c =
+    ClosesWith c.terms.symbols.now c.terms.counts.now c.terms.args.now c.terms.rows c.statements.kinds.now c.statements.lefts.now c.statements.rights.now
+    c.statements.count
+
+abbrev pub ClashesIn : Lent → List ℕ → List ℕ → ℕ → ℕ → Bool → Type 0
+ClashesIn c =
+    ClashesWith c.terms.symbols.now c.terms.counts.now c.terms.args.now c.terms.rows c.statements.kinds.now c.statements.lefts.now c.statements.rights.now
+    c.statements.count

@@ -1,6 +1,7 @@
 -- What the marks of classes say, and what marking does to them.
 --     busy_by           whether a class has an argument of some row or a side of some difference, or all do since the context contradicts itself
 --     Marks, MarksOf   the marks of a context: 1 where the class is busy, and else 0; and those of any columns
+--     MarksIn           those of a context that is lent
 --     Raised, Argued   some marks become 1, and the others stay
 --     sides_at          whether a class is that of a side of statement k, where it is a difference
 -- Assumes nothing.
@@ -10,6 +11,7 @@ use Rattle.meaning.specs.Equality.{rep_at}
 use Rattle.meaning.specs.Columns.{rows_from, context_from}
 use Rattle.meaning.specs.Following.{follows_by, argument_by, occurs_by}
 use Rattle.columns.specs.Fit.{FitContext}
+use Rattle.columns.specs.declared.Context.{Context as Lent}
 
 unfoldable pub busy_by : (ℕ → ℕ) → List Row → List (ℕ × ℕ) → ℕ → Bool
 busy_by rep rows ds a = follows_by rep ds || occurs_by rep rows ds a
@@ -26,6 +28,11 @@ pub record Marks (c : Context) (t marks : List ℕ) : Type 0 where
 pub record MarksOf (symbols counts args : List ℕ) (n : ℕ) (kinds lefts rights : List ℕ) (m : ℕ) (t marks : List ℕ) : Type 0 where
   pub fit : FitContext symbols counts args n kinds lefts rights m → Marks (context_from symbols counts args n kinds lefts rights m) t marks
   pub unfit : (FitContext symbols counts args n kinds lefts rights m → ⊥) → marks ≡ replicate 255 1
+
+abbrev pub MarksIn : Lent → List ℕ → List ℕ → Type 0
+MarksIn c =
+    MarksOf c.terms.symbols.now c.terms.counts.now c.terms.args.now c.terms.rows c.statements.kinds.now c.statements.lefts.now c.statements.rights.now
+    c.statements.count
 
 pub record Raised (f : ℕ → Bool) (m m' : List ℕ) : Type 0 where
   pub long : length m' ≡ length m

@@ -1,21 +1,19 @@
 -- The line and the pieces that are handed over are what has to be printed.
 --     opened-ready                    what `open` gives, with room for all steps
---     line-fits, line-finds           the line's bytes stand in the array; they are the finder program's line
+--     line-finds                      the line's bytes are the finder program's line
 --     piece-fits, piece-comes         a piece's bytes stand in its space; they are the lines that come
 --     Listed                          what was handed over so far, and the lines from an item on, are all
 --     listed_start, listed_next       nothing yet; a piece more
---     listed-left, listed-done        a piece that was not taken; every line was handed over
+--     listed-done                     every line was handed over
 --     turn-less                       a piece has room for a line, so it ends at a later one
---     head-left, head-whole           a line that was not taken; the line, and then the lines of the grounds
+--     head-whole                      the line, and then the lines of the grounds
 --     room-there                      the program's run has room
 -- Assumes nothing.
-use mathlib.Core.Bool.{Bool, true, not}
 use mathlib.Core.List.{List, [], ◌++◌, append-nil, append_assoc}
 use mathlib.Core.Path.{◌≡◌, refl, sym, ap, subst, ◌∙◌}
 use Prim.Native.Nat.{ℕ, ◌+◌, ◌-◌, ◌≤◌, ◌<◌}
 use native.Mathlib.Omega.{arith}
 use borrow.Author.Rules.{rules}
-use borrow.Author.Tests.{not-true}
 use lib.ListN.{length, take, drop, replicate, length-replicate}
 use Rattle.meaning.specs.Text.{narrow}
 use Rattle.meaning.specs.Replies.{FindPrints}
@@ -29,12 +27,11 @@ use Rattle.grounds_lines.specs.declared.Filled.{Filled}
 use Rattle.grounds_lines.specs.declared.opening.Opened.{Opened}
 use Rattle.grounds_lines.proofs.Filling.{fills-rest, fills-on}
 use Rattle.grounds_lines.proofs.Output.{opened-found}
-use Rattle.channels.specs.declared.output.Sent.{Sent}
-use Rattle.channels.specs.Sending.{none_sent, both_of, whole_by, Carries, Delivers}
-use Rattle.channels.proofs.Fronts.{front_fits, front-taken, first_count}
-use Rattle.channels.proofs.Sending.{carries-none, carries-both, carries-left, delivers-one, delivers-none}
-use Rattle.channels.proofs.Taking.{takes-within, takes-read}
-use Rattle.grounds.specs.Giving.{Ready, GroundsPrints, Comes, Gives, Lists}
+use Rattle.channels.specs.declared.output.Taken.{Taken}
+use Rattle.channels.specs.Sending.{none_taken, both_of, Counts}
+use Rattle.channels.proofs.Fronts.{front_fits, front-taken}
+use Rattle.channels.proofs.Sending.{counts-none, counts-both}
+use Rattle.grounds.specs.Giving.{Ready, GroundsPrints, Comes, Gives}
 
 -- ---- the line
 
@@ -48,25 +45,19 @@ module _ (input : List ℕ) (o : Opened) (steps : List (List ℕ)) (ready : Read
   abbrev line_of : List ℕ
   line_of = take o.line.len o.line.bytes
 
-  pub line-fits : o.line.len ≤ length o.line.bytes
-  line-fits =
-      front_fits found.line (replicate (32 - length found.line) 0) o.line.bytes o.line.len found.front.size found.front.front
-
   pub line-finds : FindPrints narrow input line_of
   line-finds =
       subst (FindPrints narrow input)
       (sym (front-taken found.line (replicate (32 - length found.line) 0) o.line.bytes o.line.len found.front.size found.front.front))
       found.prints
 
-  pub head-whole : (a b r : Sent) → Carries line_of a → Lists steps o.steps o.conclusions o.literals b
-      → r ≡ both_of a.fate a b → Delivers (GroundsPrints input) r
-  head-whole a b r c d e =
-      delivers-one (GroundsPrints input) (line_of ++ frames_from steps o.steps o.conclusions o.literals 0) r
-      (record { opened = o; steps = steps; ready = ready; line = line_of; finds = line-finds; whole = refl })
-      (carries-both line_of (frames_from steps o.steps o.conclusions o.literals 0) a b r e c d.carries)
-
-pub head-left : (input : List ℕ) (a : Sent) (b : Bool) → b ≡ whole_by a.fate → not b ≡ true → Delivers (GroundsPrints input) a
-head-left input a b e h = delivers-none (GroundsPrints input) a (sym e ∙ not-true b h)
+  pub head-whole : (a b r : Taken) → Counts line_of a → Counts (frames_from steps o.steps o.conclusions o.literals 0) b → r ≡ both_of a b
+      → (out : List ℕ) × GroundsPrints input out × Counts out r
+  head-whole a b r c d e = (
+    line_of ++ frames_from steps o.steps o.conclusions o.literals 0,
+    record { opened = o; steps = steps; ready = ready; line = line_of; finds = line-finds; whole = refl },
+    counts-both line_of (frames_from steps o.steps o.conclusions o.literals 0) a b r e c d,
+  )
 
 -- ---- the pieces
 
@@ -94,44 +85,37 @@ module _ (steps : List (List ℕ)) (many : ℕ) (d : Conclusions) (literals : �
               omega (arith, f.next, fills-on steps many d literals from (length (replicate {A = ℕ} 8192 0)) (omega (arith, length-replicate {A = ℕ} 8192 0)) h);
         }
 
-  pub record Listed (at : ℕ) (sent : Sent) : Type 0 where
+  pub record Listed (at : ℕ) (taken : Taken) : Type 0 where
     pub bytes : List ℕ
-    pub carries : Carries bytes sent
+    pub counts : Counts bytes taken
     pub whole : frames 0 ≡ bytes ++ frames at
 
-  pub listed_start : (sent : Sent) → sent ≡ none_sent → Listed 0 sent
-  listed_start sent e = record { bytes = []; carries = subst (Carries []) (sym e) carries-none; whole = refl }
+  pub listed_start : (taken : Taken) → taken ≡ none_taken → Listed 0 taken
+  listed_start taken e = record { bytes = []; counts = subst (Counts []) (sym e) counts-none; whole = refl }
 
-  module _ (at next : ℕ) (sent more both : Sent) (l : Listed at sent) (g : Gives steps many d literals at next more)
-      (e : both ≡ both_of sent.fate sent more) where
+  module _ (at next : ℕ) (taken more both : Taken) (l : Listed at taken) (g : Gives steps many d literals at next more) (e : both ≡ both_of taken more) where
     pub listed_next : Listed next both
     listed_next =
         record {
           bytes = l.bytes ++ g.bytes;
-          carries = carries-both l.bytes g.bytes sent more both e l.carries g.carries;
+          counts = counts-both l.bytes g.bytes taken more both e l.counts g.counts;
           whole = l.whole ∙ ap (λ (z : List ℕ). l.bytes ++ z) g.comes.whole ∙ sym (append_assoc l.bytes g.bytes (frames next));
         }
 
-  pub listed-left : (sent : Sent) (b : Bool) → b ≡ whole_by sent.fate → not b ≡ true → Lists steps many d literals sent
-  listed-left sent b e h = record { carries = carries-left (frames 0) sent (sym e ∙ not-true b h) }
-
-  pub listed-done : (at end : ℕ) (sent : Sent) → Listed at sent → end ≡ item_count steps many literals → end ≤ at → Lists steps many d literals sent
+  pub listed-done : (at end : ℕ) (taken : Taken) → Listed at taken → end ≡ item_count steps many literals → end ≤ at → Counts (frames 0) taken
   unfolding run
-  listed-done at end sent l e h =
+  listed-done at end taken l e h =
       let z : item_count steps many literals - at ≡ 0 = omega arith in
       let none : frames at ≡ [] = ap (run (line_in steps many d) at) z in
-      record { carries = subst (λ (x : List ℕ). Carries x sent) (sym (l.whole ∙ ap (λ (x : List ℕ). l.bytes ++ x) none ∙ append-nil l.bytes)) l.carries }
+      subst (λ (x : List ℕ). Counts x taken) (sym (l.whole ∙ ap (λ (x : List ℕ). l.bytes ++ x) none ∙ append-nil l.bytes)) l.counts
 
-  pub turn-less : (end at next : ℕ) (sent : Sent) → end ≡ item_count steps many literals → at < end
-      → Gives steps many d literals at next sent → end - next < end - at
-  turn-less end at next sent e h g = omega (arith, g.comes.later (omega arith))
+  pub turn-less : (end at next : ℕ) (taken : Taken) → end ≡ item_count steps many literals → at < end
+      → Gives steps many d literals at next taken → end - next < end - at
+  turn-less end at next taken e h g = omega (arith, g.comes.later (omega arith))
 
 -- ---- the run
 
 pub room-there : (words : List ℕ) → most_steps ≤ length (replicate most_steps words)
 room-there words = omega (arith, length-replicate {A = List ℕ} most_steps words)
 
-pub ruleset mine = (rules, first_count, takes-within, takes-read, opened-ready, line-fits, piece-fits, piece-comes, listed_start, listed_next, turn-less, room-there)
-
--- the ways out
-pub ruleset ways = (line-finds, head-whole, listed-done)
+pub ruleset mine = (rules, opened-ready, line-finds, head-whole, piece-fits, piece-comes, listed_start, listed_next, listed-done, turn-less, room-there)

@@ -3,7 +3,6 @@
 --     GroundsPrints    what has to be printed for it: the finder program's line, and the lines of the grounds that stand in the run
 --     Comes            the lines of the items from one to before another
 --     Gives            a piece of the lines, and which item comes next
---     Lists            all lines
 -- Assumes nothing.
 use Rattle.std.specs.Prelude.{List, ◌++◌, ◌≡◌, ℕ, ◌≤◌, ◌<◌, length}
 use Rattle.meaning.specs.Text.{narrow}
@@ -13,8 +12,8 @@ use Rattle.grounds_steps.specs.Steps.{most_steps}
 use Rattle.grounds_lines.specs.Filling.{item_count, frames_from}
 use Rattle.grounds_lines.specs.Opening.{Opens}
 use Rattle.grounds_lines.specs.declared.opening.Opened.{Opened}
-use Rattle.channels.specs.declared.output.Sent.{Sent}
-use Rattle.channels.specs.Sending.{Carries}
+use Rattle.channels.specs.declared.output.Taken.{Taken}
+use Rattle.channels.specs.Sending.{Counts}
 
 -- by the run before and after
 pub record Ready (input : List ℕ) (o : Opened) (steps' : List (List ℕ)) : Type 0 where
@@ -34,10 +33,7 @@ pub record Comes (steps : List (List ℕ)) (many : ℕ) (d : Conclusions) (liter
   pub whole : frames_from steps many d literals from ≡ bytes ++ frames_from steps many d literals next
   pub later : from < item_count steps many literals → from < next
 
-pub record Gives (steps : List (List ℕ)) (many : ℕ) (d : Conclusions) (literals from next : ℕ) (sent : Sent) : Type 0 where
+pub record Gives (steps : List (List ℕ)) (many : ℕ) (d : Conclusions) (literals from next : ℕ) (taken : Taken) : Type 0 where
   pub bytes : List ℕ
   pub comes : Comes steps many d literals from next bytes
-  pub carries : Carries bytes sent
-
-pub record Lists (steps : List (List ℕ)) (many : ℕ) (d : Conclusions) (literals : ℕ) (sent : Sent) : Type 0 where
-  pub carries : Carries (frames_from steps many d literals 0) sent
+  pub counts : Counts bytes taken

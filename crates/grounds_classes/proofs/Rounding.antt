@@ -18,18 +18,22 @@ use Rattle.meaning.specs.ByTable.{same_list}
 use Rattle.meaning.proofs.Logic.{and-true-right}
 use Rattle.meaning.proofs.Lists.{same_list-true}
 use Rattle.meaning.proofs.Entries.{length-map, map_at}
-use Rattle.runs.specs.Limits.{row_size, arg_places}
-use Rattle.runs.specs.Runs.{row_count, symbol_in, count_in as arg_count, arg_in, args_in, rows_of}
-use Rattle.runs.proofs.Saying.{rows-at, row-length, arg-at}
+use Rattle.runs.specs.Runs.{row_count, symbol_in, count_in as arg_count, args_in, rows_of}
+use Rattle.runs.proofs.Saying.{rows-at, row-length}
 use Rattle.grounds_numbers.specs.Limits.{most_numbers, pair_size}
 use Rattle.grounds_numbers.specs.Pairs.{pair_count, pairs_in}
 use Rattle.grounds_numbers.proofs.Pairing.{pairs-length, pairs-at}
 use Rattle.grounds_steps.specs.Steps.{most_each}
-use Rattle.grounds_laws.specs.Draft.{count_in, Wrote, pushed}
-use Rattle.grounds_laws.specs.Classes.{label_in, labelled, State, state_of, upto, same, joined}
+use Rattle.grounds_laws.specs.Draft.{count_in, Wrote, Written, pushed}
+use Rattle.grounds_laws.specs.Classes.{label_in, labelled, State, state_of, joined}
 use Rattle.grounds_laws.specs.Rounds.{start_one, started, pair_joined, stated_pair, state_one, stated, one_label, alike, argued, congruent_by, congruence, united, paired_apart, paired, row_passed, passed, rounds}
-use Rattle.grounds_classes.specs.Settling.{Entered, one_argument, labels_of, united_by, apart_by, paired_by, row_passed_by, passed_by, Rests, rested_by}
-use Rattle.grounds_classes.proofs.Classing.{Through, through-start, through-next, through-done, through-cells, through-table, wrote-is}
+use Rattle.grounds_classes.specs.Settling.{one_argument, labels_of, paired_by, row_passed_by, passed_by, rested_by}
+use Rattle.grounds_classes.specs.declared.draft.Equation.{Equation}
+use Rattle.grounds_classes.specs.declared.classes.Classes.{Classes}
+use Rattle.grounds_classes.specs.declared.keys.Two.{Two}
+use Rattle.grounds_classes.specs.Holding.{class_in, met, state_in, Keeps, Becomes, Adds}
+use Rattle.grounds_classes.specs.Uniting.{argued_in, congruence_in, united_in, apart_in, paired_in}
+use Rattle.grounds_classes.proofs.Classing.{Through, through-start, through-next, through-done, wrote-is, same-met, keeps-on}
 
 -- ---- the sides of a pair
 
@@ -57,90 +61,111 @@ pub start-one : (ns : List ℕ) (x : ℕ) (cells table : List ℕ) {after table'
 unfolding start_one
 start-one ns x cells table {after} {table'} {y} {w} e f g = rw (sym e, wrote-is (pushed cells 2 x y 0 0 0 0) f) (ap (state_of after) g)
 
-pub start-done : (ns : List ℕ) (n : ℕ) (start : State) {cells table : List ℕ} {k : ℕ} → Through (start_one ns) n start (state_of cells table) k → n ≤ k
-    → state_of cells table ≡ started ns n start
+pub start-done : (ns : List ℕ) {n m : ℕ} {before after : Classes} {k : ℕ} → Through (start_one ns) n before after k → n ≡ m → n ≤ k
+    → Becomes before after (started ns m (state_in before))
 unfolding started
-start-done ns n start w h = through-done w h
+start-done ns w e h = through-done w e h
 
 -- ---- two entries joined by a step
 
-module _ (n kind x y number : ℕ) (cells table : List ℕ) where
-  pub pair-none : {b : Bool} → b ≡ one_label table x y → b ≡ true → state_of cells table ≡ pair_joined n kind x y number (state_of cells table)
+module _ (n kind x y number : ℕ) (before : Classes) {b : Bool} (e : b ≡ one_label before.table.now x y) where
+  pub pair-none : b ≡ true → Becomes before before (pair_joined n kind x y number (state_in before))
   unfolding pair_joined one_label
-  pair-none e f = rw (sym e ∙ f, pair_joined)
+  pair-none f = record { so = rw (sym e ∙ f, pair_joined); keeps = record { column = refl; classes = refl } }
 
-  pub pair-joined : {mid cells' table' : List ℕ} {b : Bool} {w : ℕ} → b ≡ one_label table x y → b ≡ false → Wrote mid w (pushed cells kind x y number 0 0 0)
-      → state_of cells' table' ≡ joined n w x y (state_of mid table)
-      → state_of cells' table' ≡ pair_joined n kind x y number (state_of cells table)
+  pub pair-joined : {mid after : Classes} {w : ℕ} → b ≡ false → Wrote mid.cells.now w (pushed before.cells.now kind x y number 0 0 0) → mid.table.now ≡ before.table.now
+      → Keeps before mid
+      → Becomes mid after (joined n w x y (state_in mid))
+      → Becomes before after (pair_joined n kind x y number (state_in before))
   unfolding pair_joined one_label
-  pair-joined e f g h = rw (sym e ∙ f, pair_joined, wrote-is (pushed cells kind x y number 0 0 0) g) h
+  pair-joined {mid} {after} {w} f g l k h =
+      record {
+        so =
+            rw (sym e ∙ f, pair_joined, wrote-is (pushed before.cells.now kind x y number 0 0 0) g)
+            (h.so ∙ ap (λ (t : List ℕ). joined n w x y (state_of mid.cells.now t)) l);
+        keeps = keeps-on k h.keeps;
+      }
 
 -- ---- stated equations
 
-pub state-one : (n : ℕ) (pairs : List ℕ) (i : ℕ) (state : State) {l r : ℕ} {after : State} → l ≡ left_at (pairs_in pairs) i → r ≡ right_at (pairs_in pairs) i
-    → after ≡ pair_joined n 1 l r (i + 1) state
-    → after ≡ state_one n (pairs_in pairs) i state
+pub state-one : (n : ℕ) (pairs : List ℕ) (i : ℕ) {l r : ℕ} {before after : Classes} → l ≡ left_at (pairs_in pairs) i → r ≡ right_at (pairs_in pairs) i
+    → Becomes before after (pair_joined n 1 l r (i + 1) (state_in before))
+    → Becomes before after (state_one n (pairs_in pairs) i (state_in before))
 unfolding state_one stated_pair
-state-one n pairs i state el er e = rw (sym el, sym er) e
+state-one n pairs i el er e = record { so = rw (sym el, sym er) e.so; keeps = e.keeps }
 
 pub state-few : (pairs : List ℕ) {i m : ℕ} → pair_count pairs < most_numbers → m ≡ pair_count pairs → i < m → i + 1 < most_numbers
 state-few pairs h e l = omega arith
 
-pub state-done : (n : ℕ) (pairs : List ℕ) (start : State) {cells table : List ℕ} {m k : ℕ} → m ≡ pair_count pairs → Through (state_one n (pairs_in pairs)) m start (state_of cells table) k → m ≤ k
-    → state_of cells table ≡ stated n (pairs_in pairs) start
+pub state-done : (n : ℕ) (pairs : List ℕ) {before after : Classes} {m k : ℕ} → Through (state_one n (pairs_in pairs)) m before after k → m ≡ pair_count pairs → m ≤ k
+    → Becomes before after (stated n (pairs_in pairs) (state_in before))
 unfolding stated
-state-done n pairs start e w h = through-done w h ∙ ap (λ (i : ℕ). upto i (state_one n (pairs_in pairs)) start) (e ∙ sym (pairs-length pairs))
+state-done n pairs w e h = through-done w (e ∙ sym (pairs-length pairs)) h
 
 -- ---- arguments
 
-module _ (keys : List ℕ) (entered : Entered keys) (x : ℕ) (h : x < row_count keys) where
-  pub arg-in : (k : ℕ) {c r : ℕ} → c ≡ arg_count keys x → k < c → r ≡ arg_in keys x k → r ≡ get_or (args_in keys x) k 0
-  arg-in k e l q = q ∙ sym (arg-at keys (x * row_size + 2) (arg_count keys x) k (omega arith) (entered.few x h))
+module _ (t : Two) where
+  abbrev held : List ℕ
+  held = t.entries.keys.now
 
-  pub arg-few : (k : ℕ) {c : ℕ} → c ≡ arg_count keys x → k < c → k < arg_places
-  arg-few k e l = omega (arith, entered.few x h)
+  abbrev xs : List ℕ
+  xs = args_in held t.x
 
-  long : length (args_in keys x) ≡ arg_count keys x
-  long = row-length keys x h (entered.few x h)
+  abbrev ys : List ℕ
+  ys = args_in held t.y
 
-  pub arg-past : (k : ℕ) {c : ℕ} → c ≡ arg_count keys x → c ≤ k → 0 ≡ get_or (args_in keys x) k 0
-  arg-past k e l = sym (get_or-eq_default (args_in keys x) 0 {n = k} (omega (arith, long)))
+  long : length xs ≡ arg_count held t.x
+  long = row-length held t.x t.x_inside (t.entries.few t.x t.x_inside)
 
-  pub entry-few : x < most_numbers
-  entry-few = omega (arith, entered.numbers)
-
-  module _ (cells table : List ℕ) (y i : ℕ) {c : ℕ} (e : c ≡ arg_count keys x) where
-    pub argued-same : {after : List ℕ} {a b r : ℕ} → i < c → a ≡ get_or (args_in keys x) i 0 → b ≡ get_or (args_in keys y) i 0 → Wrote after r (same cells table a b)
-        → Wrote after r (argued cells table (args_in keys x) (args_in keys y) i)
+  module _ (cells table : List ℕ) (i : ℕ) {c : ℕ} (e : c ≡ arg_count held t.x) where
+    pub argued-same : {after : List ℕ} {p q : Equation} {a b r : ℕ} → i < c → a ≡ get_or xs i 0 → b ≡ get_or ys i 0 → p ≡ class_in table a → q ≡ class_in table b
+        → Wrote after r (met cells p q)
+        → Wrote after r (argued cells table xs ys i)
     unfolding argued
-    argued-same l ea eb w = rw (lt-ltb i (length (args_in keys x)) (omega (arith, long)), argued, sym ea, sym eb) w
+    argued-same {a = a} {b = b} l ea eb ep eq w = rw (lt-ltb i (length xs) (omega (arith, long)), argued, sym ea, sym eb) (same-met cells table a b ep eq w)
 
-    pub argued-none : c ≤ i → Wrote cells 0 (argued cells table (args_in keys x) (args_in keys y) i)
+    pub argued-none : c ≤ i → Wrote cells 0 (argued cells table xs ys i)
     unfolding argued
-    argued-none l = rw (le-ltb i (length (args_in keys x)) (omega (arith, long)), argued) (record { column = refl; step = refl })
+    argued-none l = rw (le-ltb i (length xs) (omega (arith, long)), argued) (record { column = refl; step = refl })
 
-module _ (cells table xs ys : List ℕ) (x y : ℕ) where
-  pub congruent-pushed : (a b : ℕ) {one two after : List ℕ} {c d r : ℕ} → Wrote one c (argued cells table xs ys 2) → Wrote two d (argued one table xs ys 3)
-      → Wrote after r (pushed two 5 x y a b c d)
-      → Wrote after r (congruent_by cells table xs ys x y a b)
-  unfolding congruent_by
-  congruent-pushed a b {one} e f w = rw (wrote-is (argued cells table xs ys 2) e, wrote-is (argued one table xs ys 3) f) w
+  pub congruence-pushed : {start one two three four : Classes} {after : List ℕ} {a b c d r : ℕ} → Adds start one a (argued_in t 0 (state_in start))
+      → Adds one two b (argued_in t 1 (state_in one))
+      → Adds two three c (argued_in t 2 (state_in two))
+      → Adds three four d (argued_in t 3 (state_in three))
+      → Wrote after r (pushed four.cells.now 5 t.x t.y a b c d)
+      → Wrote after r (congruence_in t (state_in start))
+  unfolding congruence congruent_by
+  congruence-pushed {start} {one} {two} {three} {four} {after} {a} {b} {c} {d} {r} e f g h w =
+      let t₁ : one.table.now ≡ start.table.now = e.table in
+      let t₂ : two.table.now ≡ start.table.now = f.table ∙ t₁ in
+      let t₃ : three.table.now ≡ start.table.now = g.table ∙ t₂ in
+      let f' : Wrote two.cells.now b (argued one.cells.now start.table.now xs ys 1) =
+      subst (λ (l : List ℕ). Wrote two.cells.now b (argued one.cells.now l xs ys 1)) t₁ f.wrote in
+      let g' : Wrote three.cells.now c (argued two.cells.now start.table.now xs ys 2) =
+      subst (λ (l : List ℕ). Wrote three.cells.now c (argued two.cells.now l xs ys 2)) t₂ g.wrote in
+      let h' : Wrote four.cells.now d (argued three.cells.now start.table.now xs ys 3) =
+      subst (λ (l : List ℕ). Wrote four.cells.now d (argued three.cells.now l xs ys 3)) t₃ h.wrote in
+      rw (
+        wrote-is (argued start.cells.now start.table.now xs ys 0) e.wrote,
+        wrote-is (argued one.cells.now start.table.now xs ys 1) f',
+        wrote-is (argued two.cells.now start.table.now xs ys 2) g',
+        wrote-is (argued three.cells.now start.table.now xs ys 3) h',
+      ) w
 
-  pub congruence-pushed : {one two after : List ℕ} {a b r : ℕ} → Wrote one a (argued cells table xs ys 0) → Wrote two b (argued one table xs ys 1)
-      → Wrote after r (congruent_by two table xs ys x y a b)
-      → Wrote after r (congruence cells table xs ys x y)
-  unfolding congruence
-  congruence-pushed {one} e f w = rw (wrote-is (argued cells table xs ys 0) e, wrote-is (argued one table xs ys 1) f) w
+  pub tables-on : {start one two three four : Classes} {a b c d : ℕ} {v₁ v₂ v₃ v₄ : Written} → Adds start one a v₁ → Adds one two b v₂ → Adds two three c v₃ → Adds three four d v₄
+      → (Keeps start four) × (four.table.now ≡ start.table.now)
+  tables-on e f g h = (keeps-on e.keeps (keeps-on f.keeps (keeps-on g.keeps h.keeps)), h.table ∙ (g.table ∙ (f.table ∙ e.table)))
 
-pub united-joined : (keys : List ℕ) (x y : ℕ) (cells table : List ℕ) {mid cells' table' : List ℕ} {n w : ℕ} → n ≡ row_count keys
-    → Wrote mid w (congruence cells table (args_in keys x) (args_in keys y) x y)
-    → state_of cells' table' ≡ joined n w x y (state_of mid table)
-    → state_of cells' table' ≡ united_by keys x y (state_of cells table)
-unfolding united
-united-joined keys x y cells table {mid} {w = w} z e f = rw (wrote-is (congruence cells table (args_in keys x) (args_in keys y) x y) e) (f ∙ ap (λ (m : ℕ). joined m w x y (state_of mid table)) z)
-
-pub united-few : (keys : List ℕ) {n : ℕ} → Entered keys → n ≡ row_count keys → n ≤ most_numbers
-united-few keys w e = omega (arith, w.numbers)
+  pub united-joined : {before mid after : Classes} {w : ℕ} → Adds before mid w (congruence_in t (state_in before)) → Becomes mid after (joined (row_count held) w t.x t.y (state_in mid))
+      → Becomes before after (united_in t (state_in before))
+  unfolding united
+  united-joined {before} {mid} {after} {w} a e =
+      record {
+        so =
+            rw (wrote-is (congruence before.cells.now before.table.now xs ys t.x t.y) a.wrote)
+            (e.so ∙ ap (λ (l : List ℕ). joined (row_count held) w t.x t.y (state_of mid.cells.now l)) a.table);
+        keeps = keeps-on a.keeps e.keeps;
+      }
 
 -- ---- two lists compared from their start: the first k elements are the same
 
@@ -150,14 +175,14 @@ pub record Comparing (keys table : List ℕ) (x y count k : ℕ) : Type 0 where
   pub left : length (args_in keys x) ≡ count
   pub right : length (args_in keys y) ≡ count
 
-pub comparing-start : (keys table : List ℕ) (x y count : ℕ) → Entered keys → x < row_count keys → y < row_count keys → arg_count keys x ≡ count → arg_count keys y ≡ count
-    → Comparing keys table x y count 0
-comparing-start keys table x y count entered hx hy ex ey =
+pub comparing-start : (t : Two) (table : List ℕ) (count : ℕ) → arg_count t.entries.keys.now t.x ≡ count → arg_count t.entries.keys.now t.y ≡ count
+    → Comparing t.entries.keys.now table t.x t.y count 0
+comparing-start t table count ex ey =
     record {
       so = refl;
       reach = omega arith;
-      left = row-length keys x hx (entered.few x hx) ∙ ex;
-      right = row-length keys y hy (entered.few y hy) ∙ ey;
+      left = row-length t.entries.keys.now t.x t.x_inside (t.entries.few t.x t.x_inside) ∙ ex;
+      right = row-length t.entries.keys.now t.y t.y_inside (t.entries.few t.y t.y_inside) ∙ ey;
     }
 
 module _ {keys table : List ℕ} {x y count k : ℕ} (w : Comparing keys table x y count k) where
@@ -206,76 +231,82 @@ one_argument_lem keys table x y k ea ec e = e ∙ ap₂ (one_label table) ea ec
 
 -- ---- two entries compared
 
-module _ (keys table : List ℕ) (x y : ℕ) (entered : Entered keys) (hx : x < row_count keys) (hy : y < row_count keys) where
-  alike-in : alike (rows_of keys) table x y ≡ (eqb (symbol_in keys x) (symbol_in keys y) && same_list (labels_of keys table x) (labels_of keys table y))
+module _ (t : Two) (table : List ℕ) where
+  abbrev all : List ℕ
+  all = t.entries.keys.now
+
+  abbrev labels : ℕ → List ℕ
+  labels = labels_of all table
+
+  alike-in : alike (rows_of all) table t.x t.y ≡ (eqb (symbol_in all t.x) (symbol_in all t.y) && same_list (labels t.x) (labels t.y))
   unfolding alike
-  alike-in = rw (rows-at keys x hx, rows-at keys y hy)
+  alike-in = rw (rows-at all t.x t.x_inside, rows-at all t.y t.y_inside)
 
-  labels-long : (z : ℕ) → z < row_count keys → length (labels_of keys table z) ≡ arg_count keys z
-  labels-long z h = length-map (label_in table) (args_in keys z) ∙ row-length keys z h (entered.few z h)
+  labels-long : (z : ℕ) → z < row_count all → length (labels z) ≡ arg_count all z
+  labels-long z h = length-map (label_in table) (args_in all z) ∙ row-length all z h (t.entries.few z h)
 
-  pub alike-symbols : {p q : ℕ} → p ≡ symbol_in keys x → q ≡ symbol_in keys y → (p ≡ q → ⊥) → false ≡ alike (rows_of keys) table x y
-  alike-symbols ep eq d = sym (alike-in ∙ rw (ne_eqb (symbol_in keys x) (symbol_in keys y) (λ z. d (ep ∙ z ∙ sym eq))))
+  pub alike-symbols : {p q : ℕ} → p ≡ symbol_in all t.x → q ≡ symbol_in all t.y → (p ≡ q → ⊥) → false ≡ alike (rows_of all) table t.x t.y
+  alike-symbols ep eq d = sym (alike-in ∙ rw (ne_eqb (symbol_in all t.x) (symbol_in all t.y) (λ z. d (ep ∙ z ∙ sym eq))))
 
-  pub alike-counts : {p q : ℕ} → p ≡ arg_count keys x → q ≡ arg_count keys y → (p ≡ q → ⊥) → false ≡ alike (rows_of keys) table x y
-  alike-counts ep eq d = go (alike (rows_of keys) table x y) refl
+  pub alike-counts : {p q : ℕ} → p ≡ arg_count all t.x → q ≡ arg_count all t.y → (p ≡ q → ⊥) → false ≡ alike (rows_of all) table t.x t.y
+  alike-counts ep eq d = go (alike (rows_of all) table t.x t.y) refl
     where
-      go : (b : Bool) → alike (rows_of keys) table x y ≡ b → false ≡ alike (rows_of keys) table x y
+      go : (b : Bool) → alike (rows_of all) table t.x t.y ≡ b → false ≡ alike (rows_of all) table t.x t.y
       go false e = sym e
       go true e =
-          let f : same_list (labels_of keys table x) (labels_of keys table y) ≡ true =
-          and-true-right (eqb (symbol_in keys x) (symbol_in keys y)) (same_list (labels_of keys table x) (labels_of keys table y)) (sym alike-in ∙ e) in
-          absurd (d (ep ∙ sym (labels-long x hx) ∙ ap length (same_list-true (labels_of keys table x) (labels_of keys table y) f) ∙ labels-long y hy ∙ sym eq))
+          let f : same_list (labels t.x) (labels t.y) ≡ true =
+          and-true-right (eqb (symbol_in all t.x) (symbol_in all t.y)) (same_list (labels t.x) (labels t.y)) (sym alike-in ∙ e) in
+          absurd (d (ep ∙ sym (labels-long t.x t.x_inside) ∙ ap length (same_list-true (labels t.x) (labels t.y) f) ∙ labels-long t.y t.y_inside ∙ sym eq))
 
-  pub alike-labels : {p q : ℕ} {r : Bool} → p ≡ symbol_in keys x → q ≡ symbol_in keys y → p ≡ q → r ≡ same_list (labels_of keys table x) (labels_of keys table y)
-      → r ≡ alike (rows_of keys) table x y
-  alike-labels ep eq e f = f ∙ sym (alike-in ∙ rw (eq-eqb (symbol_in keys x) (symbol_in keys y) (sym ep ∙ e ∙ eq)))
+  pub alike-labels : {p q : ℕ} {r : Bool} → p ≡ symbol_in all t.x → q ≡ symbol_in all t.y → p ≡ q → r ≡ same_list (labels t.x) (labels t.y)
+      → r ≡ alike (rows_of all) table t.x t.y
+  alike-labels ep eq e f = f ∙ sym (alike-in ∙ rw (eq-eqb (symbol_in all t.x) (symbol_in all t.y) (sym ep ∙ e ∙ eq)))
 
-  -- ---- joined where they agree
+-- ---- joined where they agree
 
-  pub pair_same : (cells : List ℕ) {b : Bool} → b ≡ one_label table x y → b ≡ true → state_of cells table ≡ paired_by keys x y (state_of cells table)
-  unfolding paired one_label
-  pair_same cells e f = rw (sym e ∙ f, paired)
+module _ (t : Two) (before : Classes) {b : Bool} where
+  module _ (e : b ≡ one_label before.table.now t.x t.y) where
+    pub pair_same : b ≡ true → Becomes before before (paired_in t (state_in before))
+    unfolding paired one_label
+    pair_same f = record { so = rw (sym e ∙ f, paired); keeps = record { column = refl; classes = refl } }
 
-  pub pair-two : (cells : List ℕ) {b : Bool} {after : State} → b ≡ one_label table x y → b ≡ false → after ≡ apart_by keys x y (state_of cells table)
-      → after ≡ paired_by keys x y (state_of cells table)
-  unfolding paired one_label
-  pair-two cells e f g = rw (sym e ∙ f, paired) g
+    pub pair-two : {after : Classes} → b ≡ false → Becomes before after (apart_in t (state_in before)) → Becomes before after (paired_in t (state_in before))
+    unfolding paired one_label
+    pair-two f g = record { so = rw (sym e ∙ f, paired) g.so; keeps = g.keeps }
 
-  pub apart-stays : (cells : List ℕ) {b : Bool} → b ≡ alike (rows_of keys) table x y → b ≡ false → state_of cells table ≡ apart_by keys x y (state_of cells table)
-  unfolding paired_apart
-  apart-stays cells e f = rw (sym e ∙ f, paired_apart)
+  module _ (e : b ≡ alike (rows_of t.entries.keys.now) before.table.now t.x t.y) where
+    pub apart-stays : b ≡ false → Becomes before before (apart_in t (state_in before))
+    unfolding paired_apart
+    apart-stays f = record { so = rw (sym e ∙ f, paired_apart); keeps = record { column = refl; classes = refl } }
 
-  pub apart-united : (cells : List ℕ) {b : Bool} {after : State} → b ≡ alike (rows_of keys) table x y → b ≡ true → after ≡ united_by keys x y (state_of cells table)
-      → after ≡ apart_by keys x y (state_of cells table)
-  unfolding paired_apart
-  apart-united cells e f g = rw (sym e ∙ f, paired_apart, rows-at keys x hx, rows-at keys y hy) g
-
-pub earlier-inside : (keys : List ℕ) {x y : ℕ} → x < row_count keys → y < x → y < row_count keys
-earlier-inside keys h l = omega arith
-
-pub counted-inside : (keys : List ℕ) {n x : ℕ} → n ≡ row_count keys → x < n → x < row_count keys
-counted-inside keys e h = omega arith
+    pub apart-united : {after : Classes} → b ≡ true → Becomes before after (united_in t (state_in before)) → Becomes before after (apart_in t (state_in before))
+    unfolding paired_apart
+    apart-united f g =
+        record {
+          so = rw (sym e ∙ f, paired_apart, rows-at t.entries.keys.now t.x t.x_inside, rows-at t.entries.keys.now t.y t.y_inside) g.so;
+          keeps = g.keeps;
+        }
 
 -- ---- passes
 
-pub row_done : (keys : List ℕ) (x : ℕ) (start : State) {cells table : List ℕ} {k : ℕ} → Through (paired_by keys x) x start (state_of cells table) k → x ≤ k
-    → state_of cells table ≡ row_passed_by keys x start
+pub row_done : (keys : List ℕ) (x : ℕ) {before after : Classes} {k : ℕ} → Through (paired_by keys x) x before after k → x ≤ k
+    → Becomes before after (row_passed_by keys x (state_in before))
 unfolding row_passed
-row_done keys x start w h = through-done w h
+row_done keys x w h = through-done w refl h
 
-pub pass-done : (keys : List ℕ) (start : State) {cells table : List ℕ} {n k : ℕ} → n ≡ row_count keys → Through (row_passed_by keys) n start (state_of cells table) k → n ≤ k
-    → state_of cells table ≡ passed_by keys start
+pub pass-done : (keys : List ℕ) {before after : Classes} {n k : ℕ} → Through (row_passed_by keys) n before after k → n ≡ row_count keys → n ≤ k
+    → Becomes before after (passed_by keys (state_in before))
 unfolding passed
-pass-done keys start e w h = through-done w h ∙ ap (λ (i : ℕ). upto i (row_passed_by keys) start) e
+pass-done keys w e h = through-done w e h
 
-pub record Rounding (keys : List ℕ) (start state : State) (left : ℕ) : Type 0 where
-  pub so : rested_by keys start ≡ rounds (row_count keys) (rows_of keys) left state
-  pub column : length state.cells ≡ length start.cells
-  pub classes : length state.table ≡ length start.table
+-- after so many passes
+pub record Rounding (keys : List ℕ) (before after : Classes) (k : ℕ) : Type 0 where
+  pub so : rested_by keys (state_in before) ≡ rounds (row_count keys) (rows_of keys) (most_each - k) (state_in after)
+  pub reach : k ≤ most_each
+  pub keeps : Keeps before after
 
-pub rounding-start : (keys : List ℕ) (state : State) → Rounding keys state state most_each
-rounding-start keys state = record { so = refl; column = refl; classes = refl }
+pub rounding-start : (keys : List ℕ) (c : Classes) → Rounding keys c c 0
+rounding-start keys c = record { so = refl; reach = omega arith; keeps = record { column = refl; classes = refl } }
 
 module _ (n : ℕ) (ks : List Row) (left : ℕ) (state after : State) (e : after ≡ passed n ks state) where
   rounds-again : (count_in after.cells ≡ count_in state.cells → ⊥) → rounds n ks (suc left) state ≡ rounds n ks left after
@@ -292,59 +323,61 @@ module _ (n : ℕ) (ks : List Row) (left : ℕ) (state after : State) (e : after
       subst (λ (s : State). eqb (count_in s.cells) (count_in state.cells) ≡ true) e (eq-eqb (count_in after.cells) (count_in state.cells) d) in
       rw (t, rounds) (sym e)
 
-rounds-none : (n : ℕ) (ks : List Row) (state : State) → rounds n ks 0 state ≡ state
+rounds-none : (n : ℕ) (rs : List Row) (state : State) → rounds n rs 0 state ≡ state
 unfolding rounds
-rounds-none n ks state = refl
+rounds-none n rs state = refl
 
-module _ {keys : List ℕ} {start : State} {cells table : List ℕ} {left : ℕ} (w : Rounding keys start (state_of cells table) left) where
-  module _ {cells' table' : List ℕ} {b : Bool} (more : 0 < left) (e : Rests keys (state_of cells table) b (state_of cells' table')) where
-    stepped : rested_by keys start ≡ rounds (row_count keys) (rows_of keys) (suc (left - 1)) (state_of cells table)
-    stepped = w.so ∙ ap (λ (i : ℕ). rounds (row_count keys) (rows_of keys) i (state_of cells table)) (omega arith)
+module _ {keys : List ℕ} {before after : Classes} {k : ℕ} (w : Rounding keys before after k) where
+  module _ {after' : Classes} {b : Bool} (more : k < most_each) (e : Becomes after after' (passed_by keys (state_in after)))
+      (test : b ≡ eqb (count_in after'.cells.now) (count_in after.cells.now)) where
+    stepped : rested_by keys (state_in before) ≡ rounds (row_count keys) (rows_of keys) (suc (most_each - (k + 1))) (state_in after)
+    stepped = w.so ∙ ap (λ (i : ℕ). rounds (row_count keys) (rows_of keys) i (state_in after)) (omega arith)
 
-    pub rounding-next : length cells' ≡ length cells → length table' ≡ length table → b ≡ false → Rounding keys start (state_of cells' table') (left - 1)
-    rounding-next f g q =
+    pub rounding-next : b ≡ false → Rounding keys before after' (k + 1)
+    rounding-next q =
         record {
-          so = stepped ∙ rounds-again (row_count keys) (rows_of keys) (left - 1) (state_of cells table) (state_of cells' table') e.so (eqb-false (count_in cells') (count_in cells) (sym e.test ∙ q));
-          column = f ∙ w.column;
-          classes = g ∙ w.classes;
+          so =
+              stepped
+              ∙ rounds-again (row_count keys) (rows_of keys) (most_each - (k + 1)) (state_in after) (state_in after') e.so
+              (eqb-false (count_in after'.cells.now) (count_in after.cells.now) (sym test ∙ q));
+          reach = omega arith;
+          keeps = keeps-on w.keeps e.keeps;
         }
 
-    pub rounding-ends : b ≡ true → state_of cells' table' ≡ rested_by keys start
+    pub rounding-ends : b ≡ true → Becomes before after' (rested_by keys (state_in before))
     rounding-ends q =
-        sym (stepped
-        ∙ rounds-rest (row_count keys) (rows_of keys) (left - 1) (state_of cells table) (state_of cells' table') e.so (eqb-true (count_in cells') (count_in cells) (sym e.test ∙ q)))
+        record {
+          so =
+              sym (stepped
+              ∙ rounds-rest (row_count keys) (rows_of keys) (most_each - (k + 1)) (state_in after) (state_in after') e.so
+              (eqb-true (count_in after'.cells.now) (count_in after.cells.now) (sym test ∙ q)));
+          keeps = keeps-on w.keeps e.keeps;
+        }
 
-  pub rounding-done : left ≤ 0 → state_of cells table ≡ rested_by keys start
+  pub rounding-done : most_each ≤ k → Becomes before after (rested_by keys (state_in before))
   rounding-done h =
-      let z : left ≡ 0 = omega arith in
-      sym (w.so ∙ ap (λ (i : ℕ). rounds (row_count keys) (rows_of keys) i (state_of cells table)) z ∙ rounds-none (row_count keys) (rows_of keys) (state_of cells table))
+      let z : most_each - k ≡ 0 = omega arith in
+      record {
+        so =
+            sym (w.so ∙ ap (λ (i : ℕ). rounds (row_count keys) (rows_of keys) i (state_in after)) z ∙ rounds-none (row_count keys) (rows_of keys) (state_in after));
+        keeps = w.keeps;
+      }
 
-pub rests-made : (keys cells table : List ℕ) {cells' table' : List ℕ} {c d : ℕ} → c ≡ count_in cells → state_of cells' table' ≡ passed_by keys (state_of cells table) → d ≡ count_in cells'
-    → Rests keys (state_of cells table) (eqb d c) (state_of cells' table')
-rests-made keys cells table ec e ed = record { so = e; test = ap₂ eqb ed ec }
-
--- what is lent keeps its length
-module _ {keys cells₀ table₀ cells table : List ℕ} {left : ℕ} (w : Rounding keys (state_of cells₀ table₀) (state_of cells table) left) where
-  pub rounding-cells : length cells ≡ length cells₀
-  rounding-cells = w.column
-
-  pub rounding-table : length table ≡ length table₀
-  rounding-table = w.classes
+pub test-made : (one two : List ℕ) {c d : ℕ} → c ≡ count_in one → d ≡ count_in two → eqb d c ≡ eqb (count_in two) (count_in one)
+test-made one two ec ed = ap₂ eqb ed ec
 
 pub ruleset siding = (rules, left_in_lem, right-in, left-past, right-past)
 
-pub ruleset starting = (rules, start-one, start-done, through-start, through-next, through-cells, through-table)
+pub ruleset starting = (rules, start-one, start-done, through-start, through-next)
 
 pub ruleset joining = (rules, pair-none, pair-joined, state-one)
 
-pub ruleset stating = (rules, through-start, through-next, through-cells, through-table, state-few, state-done)
+pub ruleset stating = (rules, through-start, through-next, state-few, state-done)
 
-pub ruleset arguing = (rules, arg-in, arg-few, arg-past, argued-same, argued-none)
-
-pub ruleset uniting = (rules, entry-few, united-few, congruent-pushed, congruence-pushed, united-joined)
+pub ruleset arguing = (rules, argued-same, argued-none, congruence-pushed, united-joined)
 
 pub ruleset comparing = (rules, not-true, not-false, one_label_lem, one_argument_lem, comparing-start, comparing-next, comparing-differs, comparing-done, alike-symbols, alike-counts, alike-labels)
 
-pub ruleset pairing = (rules, not-true, not-false, entry-few, pair_same, pair-two, apart-stays, apart-united)
+pub ruleset pairing = (rules, not-true, not-false, pair_same, pair-two, apart-stays, apart-united)
 
-pub ruleset passing = (rules, earlier-inside, counted-inside, through-start, through-next, through-cells, through-table, row_done, pass-done, rests-made, rounding-start, rounding-next, rounding-ends, rounding-done, rounding-cells, rounding-table)
+pub ruleset passing = (rules, through-start, through-next, row_done, pass-done, test-made, rounding-start, rounding-next, rounding-ends, rounding-done)

@@ -4,18 +4,16 @@
 --     labels_of                      the labels of an entry's arguments
 --     united_by, apart_by, paired_by   two entries joined by their arguments; where they are alike; where their labels differ
 --     row_passed_by, passed_by         an entry and each before it; each two entries
---     Rests                         a pass, and whether it wrote no step
 --     rested_by                      passes till one writes no step
 --     settled_by                     from no steps to closed classes
 --     furthered_by                   the equation of two entries is added, and the classes closed again
 -- Assumes nothing.
-use Rattle.std.specs.Prelude.{Bool, List, map, ◌≡◌, ℕ, ◌≤◌, ◌<◌, eqb, get_or}
+use Rattle.std.specs.Prelude.{Bool, List, map, ℕ, ◌≤◌, ◌<◌, get_or}
 use Rattle.runs.specs.Limits.{arg_places}
 use Rattle.runs.specs.Runs.{row_count, count_in as arg_count, args_in, rows_of}
 use Rattle.grounds_numbers.specs.Limits.{most_numbers}
 use Rattle.grounds_numbers.specs.Pairs.{pairs_in}
 use Rattle.grounds_steps.specs.Steps.{most_each}
-use Rattle.grounds_laws.specs.Draft.{count_in}
 use Rattle.grounds_laws.specs.Classes.{label_in, State}
 use Rattle.grounds_laws.specs.Rounds.{one_label, started, stated, united, paired_apart, paired, row_passed, passed, rounds}
 use Rattle.grounds_laws.specs.Concluding.{furthered}
@@ -46,10 +44,6 @@ module _ (keys : List ℕ) where
 
   abbrev pub passed_by : State → State
   passed_by state = passed (row_count keys) (rows_of keys) state
-
-  pub record Rests (before : State) (b : Bool) (after : State) : Type 0 where
-    pub so : after ≡ passed_by before
-    pub test : b ≡ eqb (count_in after.cells) (count_in before.cells)
 
   abbrev pub rested_by : State → State
   rested_by state = rounds (row_count keys) (rows_of keys) most_each state

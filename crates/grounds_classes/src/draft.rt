@@ -1,78 +1,93 @@
 // Steps in a column: place 0 is how many there are, and each has seven places after that.
-ghost use Rattle.std.specs.Prelude.{◌≡◌};
+ghost use Rattle.std.specs.Prelude.{◌≡◌, get_or};
 ghost use Rattle.grounds_laws.specs.Draft.{count_in, Wrote, room_in, pushed, turned as back, linked as over};
 
-use casts::usize_of_u16;
 use grounds_laws::{DRAFT, NUMBERS};
+
+// A step: its kind, the two entries that it says are equal, and its four numbers.
+#[derive(Clone, Copy)]
+pub(crate) struct Step {
+    pub kind: u16,
+    pub left: u16,
+    pub right: u16,
+    pub numbers: [u16; 4],
+}
+
+// Two entries that are equal, and the number of the step that says so.
+#[derive(Clone, Copy)]
+pub(crate) struct Equation {
+    pub step: u16,
+    pub left: u16,
+    pub right: u16,
+}
 
 // How many steps a column has.
 pub(crate) fn step_count(cells: &[u16]) -> u16
     ensures { result ≡ count_in cells.now }
 {
-    if 0 < cells.len() { cells[0] } else { 0 }
+    cells.first().copied().unwrap_or(0)
 }
 
 // Whether there is room for one step more.
 fn has_room(cells: &[u16]) -> bool
     ensures { result ≡ room_in cells.now }
 {
-    let n = usize_of_u16(step_count(cells));
-    if n + 1 < NUMBERS {
-        n * DRAFT + DRAFT < cells.len()
-    } else {
-        false
-    }
+    let n = usize::from(step_count(cells));
+    n + 1 < NUMBERS && n * DRAFT + DRAFT < cells.len()
 }
 
 // The number of one step more, or 0 where there is no room.
-pub(crate) fn push(
-    cells: &mut [u16],
-    kind: u16,
-    x: u16,
-    y: u16,
-    a: u16,
-    b: u16,
-    c: u16,
-    d: u16,
-) -> u16
-    ensures { Wrote cells.new result (pushed cells.old kind x y a b c d) }
+// No Option: steps that rest on it store the number, and 0 is none there.
+pub(crate) fn push(cells: &mut [u16], step: Step) -> u16
+    ensures { Wrote cells.new result (pushed cells.old step.kind step.left step.right (get_or step.numbers 0 0) (get_or step.numbers 1 0) (get_or step.numbers 2 0) (get_or step.numbers 3 0)) }
 {
     if !has_room(cells) {
         return 0;
     }
-    let n = usize_of_u16(cells[0]);
+    let n = usize::from(cells[0]);
     let p = n * DRAFT;
-    cells[p + 1] = kind;
-    cells[p + 2] = x;
-    cells[p + 3] = y;
-    cells[p + 4] = a;
-    cells[p + 5] = b;
-    cells[p + 6] = c;
-    cells[p + 7] = d;
+    cells[p + 1] = step.kind;
+    cells[p + 2] = step.left;
+    cells[p + 3] = step.right;
+    cells[p + 4] = step.numbers[0];
+    cells[p + 5] = step.numbers[1];
+    cells[p + 6] = step.numbers[2];
+    cells[p + 7] = step.numbers[3];
     cells[0] = (n + 1) as u16;
     (n + 1) as u16
 }
 
-// The number of y = x, where step s is x = y.
-pub(crate) fn turned(cells: &mut [u16], s: u16, x: u16, y: u16) -> u16
-    ensures { Wrote cells.new result (back cells.old s x y) }
+// The number of the equation with its sides exchanged.
+pub(crate) fn turned(cells: &mut [u16], e: Equation) -> u16
+    ensures { Wrote cells.new result (back cells.old e.step e.left e.right) }
 {
-    if x == y {
-        s
-    } else {
-        push(cells, 3, y, x, s, 0, 0, 0)
+    if e.left == e.right {
+        return e.step;
     }
+    let step = Step {
+        kind: 3,
+        left: e.right,
+        right: e.left,
+        numbers: [e.step, 0, 0, 0],
+    };
+    push(cells, step)
 }
 
-// The number of x = y, where step s is x = m, and step t is m = y.
-pub(crate) fn linked(cells: &mut [u16], s: u16, t: u16, x: u16, m: u16, y: u16) -> u16
-    ensures { Wrote cells.new result (over cells.old s t x m y) }
+// The number of the equation of the outer sides of two, of which the second begins where the first ends.
+pub(crate) fn linked(cells: &mut [u16], first: Equation, second: Equation) -> u16
+    ensures { Wrote cells.new result (over cells.old first.step second.step first.left first.right second.right) }
 {
-    if x == m {
-        return t;
+    if first.left == first.right {
+        return second.step;
     }
-    if m == y {
-        return s;
+    if first.right == second.right {
+        return first.step;
     }
-    push(cells, 4, x, y, s, t, 0, 0)
+    let step = Step {
+        kind: 4,
+        left: first.left,
+        right: second.right,
+        numbers: [first.step, second.step, 0, 0],
+    };
+    push(cells, step)
 }

@@ -3,6 +3,7 @@
 
 pub mod classes;
 mod draft;
+mod keys;
 pub mod rounds;
 pub mod sides;
 
@@ -12,8 +13,7 @@ ghost use Rattle.grounds_numbers.specs.Pairs.{pair_count};
 ghost use Rattle.grounds_laws.specs.Classes.{state_of};
 ghost use Rattle.grounds_classes.specs.Settling.{Entered, settled_by, furthered_by};
 
-use rounds::{join_pair, rounds, start, state_all};
-use runs::row_count;
+use keys::Entries;
 
 // Closed classes of entries, by their keys and numbers and the stated equations, with a step for each entry's label.
 pub fn settle(cells: &mut [u16], table: &mut [u16], keys: &[u16], numbers: &[u16], pairs: &[u16])
@@ -21,10 +21,11 @@ pub fn settle(cells: &mut [u16], table: &mut [u16], keys: &[u16], numbers: &[u16
     requires pairs_bound { pair_count pairs.now < most_numbers }
     ensures { state_of cells.new table.new ≡ settled_by keys.now numbers.now pairs.now (state_of cells.old table.old) }
 {
-    let n = row_count(keys);
-    start(cells, table, numbers, n);
-    state_all(cells, table, n, pairs);
-    rounds(cells, table, keys);
+    let entries = Entries { keys };
+    let mut classes = classes::Classes { cells, table };
+    classes.start(entries, numbers);
+    classes.state_all(entries, pairs);
+    classes.rounds(entries);
 }
 
 // The classes of entries x and y become one by an added equation, and the classes are closed again.
@@ -32,6 +33,8 @@ pub fn close_further(cells: &mut [u16], table: &mut [u16], keys: &[u16], x: u16,
     requires { Entered keys.now }
     ensures { state_of cells.new table.new ≡ furthered_by keys.now x y (state_of cells.old table.old) }
 {
-    join_pair(cells, table, row_count(keys), 6, x, y, 0);
-    rounds(cells, table, keys);
+    let entries = Entries { keys };
+    let mut classes = classes::Classes { cells, table };
+    classes.join_pair(entries, 6, x, y, 0);
+    classes.rounds(entries);
 }

@@ -1,8 +1,7 @@
 -- What shows a literal, as the code writes it.
 --     Placing                   a loop over stated differences: the first so many have two labels
---     Copying                   a loop over a table: the first so many places are copied
 --     said_of                   what is said by a literal's kind is said for the literal
---     placing, copying, saying  what the functions of this crate leave to show
+--     placing, saying           what the functions of this crate leave to show
 -- Assumes nothing.
 use mathlib.Core.Bool.{Bool, true, false, not}
 use mathlib.Core.List.{List, [], ◌∷◌, ◌++◌}
@@ -11,8 +10,9 @@ use Prim.Native.Nat.{ℕ, suc, ◌+◌, ◌-◌, ◌≤◌, ◌<◌}
 use native.Mathlib.Numerals.{add-one}
 use native.Mathlib.Omega.{arith}
 use lib.Dec.{eqb}
-use lib.ListN.{length, get_or, set, take, replicate, length-set, length-take, length-replicate}
-use lib.Seq.{take_all, take-suc, take-suc-set}
+use lib.ListN.{length}
+use Rattle.std.specs.Prelude.{Option}
+use Rattle.std.specs.Option.{unwrap_or}
 use borrow.Author.Rules.{rules}
 use borrow.Author.Tests.{eq-eqb, ne_eqb}
 use Rattle.meaning.specs.Context.{Row, left_at, right_at}
@@ -65,50 +65,21 @@ module _ (table pairs : List ℕ) where
     pub placing-found : b ≡ true → Found table diffs i
     placing-found f = record { place = sym (one_more i (omega arith) w false (tested ∙ ap not f)); most = omega (arith, pairs-length pairs) }
 
-  pub placing-done : {i m : ℕ} → Placing i → m ≡ count → m ≤ i → Found table diffs m
+  pub placing-done : {i m : ℕ} → Placing i → m ≡ count → m ≤ i → Found table diffs count
   unfolding first_false
   placing-done {i} {m} w n h =
-      let e : i ≡ m = omega (arith, w.reach) in
+      let e : i ≡ count = omega (arith, w.reach) in
       let z : count - i ≡ 0 = omega arith in
       record { place = sym (w.so ∙ ap (first_false test i) z ∙ e); most = omega (arith, pairs-length pairs) }
+
+  pub placed-is : (o : Option ℕ) {i m : ℕ} → Found table diffs (unwrap_or o count) → m ≡ count → i ≡ unwrap_or o m → Found table diffs i
+  placed-is o f e q = subst (Found table diffs) (sym (q ∙ ap (unwrap_or o) e)) f
 
   pub placed-few : {i : ℕ} → Found table diffs i → count + 1 < most_numbers → i + 1 < most_numbers
   placed-few w h = omega (arith, w.most, pairs-length pairs)
 
   pub placed-sum : {i : ℕ} → Found table diffs i → count + 1 < most_numbers → i + 1 < 18446744073709551616
   placed-sum w h = omega (arith, placed-few w h)
-
--- ---- a table copied
-
-pub record Copying (table start own : List ℕ) (k : ℕ) : Type 0 where
-  pub so : take k own ≡ take k table
-  pub long : length own ≡ length start
-  pub alike : length start ≡ length table
-
-pub copying-start : (table own : List ℕ) → length own ≡ length table → Copying table own own 0
-copying-start table own e = record { so = refl; long = refl; alike = e }
-
-module _ {table start own : List ℕ} {k n : ℕ} (w : Copying table start own k) (e : n ≡ length table) where
-  pub copying-next : k < n → Copying table start (set own k (get_or table k 0)) (k + 1)
-  copying-next h =
-      record {
-        so = ap (λ (i : ℕ). take i (set own k (get_or table k 0))) add-one' ∙ take-suc-set own k (get_or table k 0) (omega (arith, w.long, w.alike))
-            ∙ ap (λ (l : List ℕ). l ++ (get_or table k 0 ∷ [])) w.so ∙ sym (take-suc table k 0 (omega arith)) ∙ ap (λ (i : ℕ). take i table) (sym add-one');
-        long = length-set own k (get_or table k 0) ∙ w.long;
-        alike = w.alike;
-      }
-    where
-      add-one' : k + 1 ≡ suc k
-      add-one' = omega arith
-
-  pub copying-inside : k < n → k < length own
-  copying-inside h = omega (arith, w.long, w.alike)
-
-  pub copying-long : length own ≡ length start
-  copying-long = w.long
-
-  pub copying-done : n ≤ k → own ≡ table
-  copying-done h = sym (take_all k own (omega (arith, w.long, w.alike))) ∙ w.so ∙ take_all k table (omega arith)
 
 -- ---- what is said
 
@@ -140,15 +111,6 @@ module _ (keys pairs : List ℕ) (kind x y : ℕ) (cells table : List ℕ) {afte
   unfolding said_by
   by-differ d w = rw (ne_eqb kind 6 d, said_by) w
 
-pub own-part : (table : List ℕ) {n : ℕ} → n ≡ length table → length table ≤ class_run → n ≤ class_run
-own-part table e h = omega arith
-
-pub own-counted : (table : List ℕ) {n : ℕ} → n ≡ length table → length table ≤ class_run → n ≡ length (take {A = ℕ} n (replicate class_run 0))
-own-counted table {n} e h = omega (arith, length-take {A = ℕ} n (replicate class_run 0), length-replicate {A = ℕ} class_run 0)
-
-pub own-long : (table : List ℕ) {n : ℕ} → n ≡ length table → length table ≤ class_run → length (take {A = ℕ} n (replicate class_run 0)) ≡ length table
-own-long table e h = sym (own-counted table e h) ∙ e
-
 -- ---- a literal
 
 module _ (n : ℕ) (ks : List Row) (ns : List ℕ) (rows : ℕ) (diffs : List (ℕ × ℕ)) where
@@ -163,6 +125,4 @@ module _ (n : ℕ) (ks : List Row) (ns : List ℕ) (rows : ℕ) (diffs : List (�
 
 pub ruleset placing = (rules, placing-start, placing-next, placing-found, placing-done)
 
-pub ruleset copying = (rules, copying-start, copying-next, copying-inside, copying-long, copying-done)
-
-pub ruleset saying = (rules, placed-few, placed-sum, equal-said, same-said, differ-said, by_equal, by-differ, own-part, own-counted, own-long)
+pub ruleset saying = (rules, placed-is, placed-few, placed-sum, equal-said, same-said, differ-said, by_equal, by-differ)

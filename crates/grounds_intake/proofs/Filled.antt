@@ -1,6 +1,6 @@
 -- Spaces that are filled place by place, and sizes that stop one above the most.
 --     Sized, sized-more      a size, and one more
---     zeros-at               a place of a space of zeros
+--     blank-at, zeros-at     a place of a space of one value alone, as of zeros
 --     Stored, stored_more    a space holds the first so many members of a list; of a list that is one longer
 --     stored-front           and those of what the list begins with
 --     stored-all             the front of the space is the list, where the size says that it fits
@@ -35,10 +35,13 @@ sized-more most n size w = go (ltb n most) refl
         let e : size ≡ most = w.full h in
         rw (← grow-stay size most (omega arith)) (record { few = omega arith; exact = λ k. absurd (omega arith); full = λ k. omega arith })
 
+pub blank-at : {A : Type 0} (d : A) (n j : ℕ) → get_or (replicate n d) j d ≡ d
+blank-at d zero j = refl
+blank-at d (suc n) zero = refl
+blank-at d (suc n) (suc j) = blank-at d n j
+
 pub zeros-at : (n j : ℕ) → ◌≡◌ {A = ℕ} (get_or (replicate n 0) j 0) 0
-zeros-at zero j = refl
-zeros-at (suc n) zero = refl
-zeros-at (suc n) (suc j) = zeros-at n j
+zeros-at n j = blank-at {A = ℕ} 0 n j
 
 -- read with something where there is nothing
 pub record Stored {A : Type 0} (d : A) (most : ℕ) (space l : List A) : Type 0 where

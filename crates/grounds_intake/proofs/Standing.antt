@@ -9,7 +9,7 @@ use mathlib.Core.Path.{◌≡◌, refl, ap, sym, ◌∙◌, subst}
 use Prim.Native.Nat.{ℕ, suc, ◌+◌, ◌≤◌, ◌<◌}
 use native.Mathlib.Omega.{arith}
 use lib.Dec.{eqb, ltb}
-use borrow.Author.Tests.{eq-eqb, ne_eqb, eqb-true, eqb-false, lt-ltb, le-ltb, ltb-true, ltb-false}
+use borrow.Author.Tests.{ne_eqb, eqb-true, eqb-false, ltb-true, ltb-false}
 use lib.ListN.{length, drop, set, replicate, length-append}
 use lib.Seq.{drop-append_seam, drop-length}
 use Rattle.meaning.specs.Text.{Line, lines_from, lines_of}
@@ -19,11 +19,13 @@ use Rattle.runs.specs.Limits.{most_variables, unused_place}
 use Rattle.grounds_steps.specs.Steps.{words_of, most_steps}
 use Rattle.text_lines.proofs.Breaks.{from_cons, feed-ends}
 use Rattle.grounds_intake.specs.Parsing.{begins, text_part, text_of, ground_lines, good_line, digits_of, assigns, place_of, places_of, places_in, formed, word_of, step_words, steps_in, concludes, conclusion_of, conclusions_in}
-use Rattle.grounds_intake.specs.Machine.{grown, phase_after, end_after, start_after, head_after, open_line, with_head, with_byte, with_places, with_conclusion, with_step, unended, noted, fresh, Memory, memory, after_step, after_line, taken, fed, finished}
+use Rattle.grounds_intake.specs.Machine.{grown, phase_after, head_after, open_line, with_head, with_byte, with_places, with_conclusion, with_step, unended, noted, fresh, Memory, memory, after_step, after_line, taken, fed, finished}
 use Rattle.grounds_intake.specs.declared.Head.{Head}
 use Rattle.grounds_intake.specs.declared.Buffer.{Buffer}
 use Rattle.grounds_intake.specs.declared.Parser.{Parser}
-use Rattle.grounds_intake.proofs.Ways.{phase-feed, phase-zero, phase-zero-other, phase-one, phase-one-other, phase-rest}
+use Rattle.grounds_intake.specs.declared.Phase.{Phase}
+use Rattle.grounds_intake.specs.declared.Phase.TheVariants.{Start, Zero, Inside, Assignment, Grounds, Beyond}
+use Rattle.grounds_intake.proofs.Ways.{phase-feed, phase-zero, phase-zero-other, phase-one, phase-one-other, phase-rest, taken-text, taken-opening, taken_places, taken-byte, taken-line, unended-not, unended-none, unended-step}
 use Rattle.grounds_intake.proofs.Filled.{Sized, sized-more, Stored, stored_more, stored-front}
 use Rattle.grounds_intake.proofs.Lined.{Buffered, buffered-empty, buffered-open, buffered-push, formed-same, word_same, places_same, noted-same}
 use Rattle.grounds_intake.proofs.Noting.{Notes, notes-none, notes-more}
@@ -156,9 +158,9 @@ waits-on done t b k e f g rest =
 
 -- where in the text the parser stands
 pub data Reading (done : List ℕ) (h : Head) : Type 0 where
-  at-start : h.phase ≡ 0 → h.start ≡ h.size → Goes done true → Reading done h
-  after-zero : h.phase ≡ 1 → (t : List ℕ) → done ≡ t ++ (48 ∷ []) → Sized (input_limit + 1) (length t) h.start → Waits done t → Reading done h
-  inside : h.phase ≡ 2 → Goes done false → Reading done h
+  at-start : h.phase ≡ Start → h.start ≡ h.size → Goes done true → Reading done h
+  after-zero : h.phase ≡ Zero → (t : List ℕ) → done ≡ t ++ (48 ∷ []) → Sized (input_limit + 1) (length t) h.start → Waits done t → Reading done h
+  inside : h.phase ≡ Inside → Goes done false → Reading done h
 
 -- ---- the text and the lines after it
 
@@ -217,12 +219,12 @@ pub data Stands (done : List ℕ) (m : Memory) : Type 0 where
       → m.parser.places ≡ replicate most_variables unused_place
       → Gathered [] m
       → Stands done m
-  in_opening : (t bytes : List ℕ) → m.parser.head.phase ≡ 3 → Cut done t [] bytes → Sized (input_limit + 1) (length t) m.parser.head.size → Stored 0 input_limit m.text t
+  in_opening : (t bytes : List ℕ) → m.parser.head.phase ≡ Assignment → Cut done t [] bytes → Sized (input_limit + 1) (length t) m.parser.head.size → Stored 0 input_limit m.text t
       → Buffered m.parser.line bytes
       → m.parser.places ≡ replicate most_variables unused_place
       → Gathered [] m
       → Stands done m
-  in_lines : (t bytes : List ℕ) (first : Line) (ls : List Line) → m.parser.head.phase ≡ 4 → Cut done t (first ∷ ls) bytes → Sized (input_limit + 1) (length t) m.parser.head.size
+  in_lines : (t bytes : List ℕ) (first : Line) (ls : List Line) → m.parser.head.phase ≡ Grounds → Cut done t (first ∷ ls) bytes → Sized (input_limit + 1) (length t) m.parser.head.size
       → Stored 0 input_limit m.text t
       → Buffered m.parser.line bytes
       → m.parser.places ≡ places_in (first ∷ ls)
@@ -246,47 +248,33 @@ stands-start text steps t s =
 
 -- ---- one byte more
 
-module _ (b : ℕ) (m : Memory) where
-  taken-text : m.parser.head.phase < 3
-      → taken b m ≡ memory (with_head m.parser b) (set m.text m.parser.head.size b) m.steps
-  unfolding taken
-  taken-text h = rw (lt-ltb m.parser.head.phase 3 h)
-
-  taken-byte : 3 ≤ m.parser.head.phase → (b ≡ 10 → ⊥) → taken b m ≡ memory (with_byte m.parser b) m.text m.steps
-  unfolding taken
-  taken-byte h e = rw (le-ltb m.parser.head.phase 3 h, ne_eqb b 10 e)
-
-  taken_places : m.parser.head.phase ≡ 3 → b ≡ 10 → taken b m ≡ memory (with_places m.parser) m.text m.steps
-  unfolding taken
-  taken_places h e = rw (le-ltb m.parser.head.phase 3 (omega arith), eq-eqb b 10 e, eq-eqb m.parser.head.phase 3 h)
-
-  taken-line : m.parser.head.phase ≡ 4 → b ≡ 10 → taken b m ≡ after_line m
-  unfolding taken
-  taken-line h e = rw (le-ltb m.parser.head.phase 3 (omega arith), eq-eqb b 10 e, ne_eqb m.parser.head.phase 3 (λ z. omega arith))
-
 -- the head by the next phase
 module _ (h : Head) (b : ℕ) where
-  head-zero : phase_after h.phase b ≡ 0 → head_after h b ≡ record { phase = 0; size = grown h.size (input_limit + 1); start = grown h.size (input_limit + 1) }
-  unfolding head_after end_after start_after
+  head-zero : phase_after h.phase b ≡ Start → head_after h b ≡ record { phase = Start; size = grown h.size (input_limit + 1); start = grown h.size (input_limit + 1) }
+  unfolding head_after
   head-zero e = rw e
 
-  head-one : phase_after h.phase b ≡ 1 → head_after h b ≡ record { phase = 1; size = grown h.size (input_limit + 1); start = h.start }
-  unfolding head_after end_after start_after
+  head-one : phase_after h.phase b ≡ Zero → head_after h b ≡ record { phase = Zero; size = grown h.size (input_limit + 1); start = h.start }
+  unfolding head_after
   head-one e = rw e
 
-  head-two : phase_after h.phase b ≡ 2 → head_after h b ≡ record { phase = 2; size = grown h.size (input_limit + 1); start = h.start }
-  unfolding head_after end_after start_after
+  head-two : phase_after h.phase b ≡ Inside → head_after h b ≡ record { phase = Inside; size = grown h.size (input_limit + 1); start = h.start }
+  unfolding head_after
   head-two e = rw e
 
-  head_three : phase_after h.phase b ≡ 3 → head_after h b ≡ record { phase = 3; size = h.start; start = h.start }
-  unfolding head_after end_after start_after
+  head_three : phase_after h.phase b ≡ Assignment → head_after h b ≡ record { phase = Assignment; size = h.start; start = h.start }
+  unfolding head_after
   head_three e = rw e
+
+-- the text is not over
+abbrev Low : Phase → Type 0
+Low p = (p ≡ Assignment → ⊥) × (p ≡ Grounds → ⊥) × (p ≡ Beyond → ⊥)
 
 module _ (done : List ℕ) (b : ℕ) (m : Memory) where
   abbrev later : Memory
   later = memory (with_head m.parser b) (set m.text m.parser.head.size b) m.steps
 
-  module _ (low : m.parser.head.phase < 3) (sized : Sized (input_limit + 1) (length done) m.parser.head.size) (stored : Stored 0 input_limit m.text done)
+  module _ (low : Low m.parser.head.phase) (sized : Sized (input_limit + 1) (length done) m.parser.head.size) (stored : Stored 0 input_limit m.text done)
       (opened : m.parser.line ≡ open_line) (unplaced : m.parser.places ≡ replicate most_variables unused_place) (gathered : Gathered [] m) where
     gathered-on : Gathered [] later
     unfolding with_head
@@ -301,7 +289,7 @@ module _ (done : List ℕ) (b : ℕ) (m : Memory) where
     text-on : (h : Head) → head_after m.parser.head b ≡ h → h.size ≡ grown m.parser.head.size (input_limit + 1) → Reading (done ++ (b ∷ [])) h → Stands (done ++ (b ∷ [])) (taken b m)
     unfolding with_head
     text-on h e s r =
-        subst (Stands (done ++ (b ∷ []))) (sym (taken-text b m low))
+        subst (Stands (done ++ (b ∷ []))) (sym (taken-text b m low.0 low.1 low.2))
         (in-text (subst (Reading (done ++ (b ∷ []))) (sym e) r)
         (subst (λ (x : Head). Sized (input_limit + 1) (length (done ++ (b ∷ []))) x.size) (sym e) (rw s more-sized))
         more-stored
@@ -309,14 +297,14 @@ module _ (done : List ℕ) (b : ℕ) (m : Memory) where
         unplaced
         gathered-on)
 
-    text-opens : (t : List ℕ) → head_after m.parser.head b ≡ record { phase = 3; size = m.parser.head.start; start = m.parser.head.start } → b ≡ 56
+    text-opens : (t : List ℕ) → head_after m.parser.head b ≡ record { phase = Assignment; size = m.parser.head.start; start = m.parser.head.start } → b ≡ 56
         → done ≡ t ++ (48 ∷ [])
         → Sized (input_limit + 1) (length t) m.parser.head.start
         → Waits done t
         → Stands (done ++ (b ∷ [])) (taken b m)
     unfolding with_head
     text-opens t e f g s w =
-        subst (Stands (done ++ (b ∷ []))) (sym (taken-text b m low))
+        subst (Stands (done ++ (b ∷ []))) (sym (taken-text b m low.0 low.1 low.2))
         (in_opening t (48 ∷ 56 ∷ []) (ap (λ (x : Head). x.phase) e) (subst (λ (x : ℕ). Cut (done ++ (x ∷ [])) t [] (48 ∷ 56 ∷ [])) (sym f) (cut-open done t g w))
         (subst (λ (x : Head). Sized (input_limit + 1) (length t) x.size) (sym e) s)
         (stored-front 0 input_limit (set m.text m.parser.head.size b) t ((48 ∷ []) ++ (b ∷ []))
@@ -369,13 +357,13 @@ module _ (done : List ℕ) (b : ℕ) (m : Memory) where
             (at-start refl refl (goes_on done b false true f (λ rest. part-inside b rest ∙ ap (λ (x : Bool). b ∷ text_part x rest) q)))
         go false q =
             let e : b ≡ 10 → ⊥ = eqb-false b 10 q in
-            text-on _ (head-two m.parser.head b (sym (phase-rest m.parser.head.phase b e (λ z. omega arith) (λ z. omega arith)))) refl
+            text-on _ (head-two m.parser.head b (sym (phase-rest m.parser.head.phase b e (λ z. cc) (λ z. cc)))) refl
             (inside refl (goes_on done b false false f (λ rest. part-inside b rest ∙ ap (λ (x : Bool). b ∷ text_part x rest) q)))
 
-reading-low : (done : List ℕ) (h : Head) → Reading done h → h.phase < 3
-reading-low done h (at-start p s f) = omega arith
-reading-low done h (after-zero p t g s w) = omega arith
-reading-low done h (inside p f) = omega arith
+reading-low : (done : List ℕ) (h : Head) → Reading done h → Low h.phase
+reading-low done h (at-start p s f) = (λ e. cc, λ e. cc, λ e. cc)
+reading-low done h (after-zero p t g s w) = (λ e. cc, λ e. cc, λ e. cc)
+reading-low done h (inside p f) = (λ e. cc, λ e. cc, λ e. cc)
 
 -- a line that has its feed
 abbrev whole : List ℕ → Line
@@ -402,11 +390,11 @@ module _ (done : List ℕ) (b : ℕ) (m : Memory) (t bytes : List ℕ) (sized : 
   noted_here = noted-same m.parser.line bytes buffered m.parser.noted
 
   -- in the 08 line
-  module _ (phase : m.parser.head.phase ≡ 3) (cut : Cut done t [] bytes) (unplaced : m.parser.places ≡ replicate most_variables unused_place) (gathered : Gathered [] m) where
+  module _ (phase : m.parser.head.phase ≡ Assignment) (cut : Cut done t [] bytes) (unplaced : m.parser.places ≡ replicate most_variables unused_place) (gathered : Gathered [] m) where
     opening_on : (b ≡ 10 → ⊥) → Stands (done ++ (b ∷ [])) (taken b m)
     unfolding with_byte
     opening_on e =
-        subst (Stands (done ++ (b ∷ []))) (sym (taken-byte b m (omega arith) e))
+        subst (Stands (done ++ (b ∷ []))) (sym (taken-opening b m phase e))
         (in_opening t (bytes ++ (b ∷ [])) phase (cut_on done t [] bytes cut b e) sized stored (buffered-push m.parser.line bytes b buffered) unplaced
         (record { counted = gathered.counted; stored = gathered.stored; notes = gathered.notes }))
 
@@ -422,12 +410,12 @@ module _ (done : List ℕ) (b : ℕ) (m : Memory) (t bytes : List ℕ) (sized : 
         (record { counted = gathered.counted; stored = gathered.stored; notes = gathered.notes }))
 
   -- in a later line
-  module _ (first : Line) (ls : List Line) (phase : m.parser.head.phase ≡ 4) (cut : Cut done t (first ∷ ls) bytes) (placed : m.parser.places ≡ places_in (first ∷ ls))
+  module _ (first : Line) (ls : List Line) (phase : m.parser.head.phase ≡ Grounds) (cut : Cut done t (first ∷ ls) bytes) (placed : m.parser.places ≡ places_in (first ∷ ls))
       (gathered : Gathered ls m) where
     line_on : (b ≡ 10 → ⊥) → Stands (done ++ (b ∷ [])) (taken b m)
     unfolding with_byte
     line_on e =
-        subst (Stands (done ++ (b ∷ []))) (sym (taken-byte b m (omega arith) e))
+        subst (Stands (done ++ (b ∷ []))) (sym (taken-byte b m phase e))
         (in_lines t (bytes ++ (b ∷ [])) first ls phase (cut_on done t (first ∷ ls) bytes cut b e) sized stored (buffered-push m.parser.line bytes b buffered) placed
         (record { counted = gathered.counted; stored = gathered.stored; notes = gathered.notes }))
 
@@ -484,19 +472,6 @@ pub record Parsed (input : List ℕ) (m : Memory) : Type 0 where
   pub places : m.parser.places ≡ places_in (ground_lines input)
   pub gathered : Gathered (drop 1 (ground_lines input)) m
 
-unended-not : (m : Memory) → (m.parser.head.phase ≡ 4 → ⊥) → finished m ≡ m
-unfolding finished
-unended-not m h = rw (ne_eqb m.parser.head.phase 4 h)
-
-unended-none : (m : Memory) → m.parser.head.phase ≡ 4 → m.parser.line.size ≡ 0 → finished m ≡ m
-unfolding finished
-unended-none m e h = rw (eq-eqb m.parser.head.phase 4 e, le-ltb 0 m.parser.line.size (omega arith))
-
-unended-step : (m : Memory) → m.parser.head.phase ≡ 4 → 0 < m.parser.line.size
-    → finished m ≡ after_step (memory (unended m.parser) m.text m.steps)
-unfolding finished
-unended-step m e h = rw (eq-eqb m.parser.head.phase 4 e, lt-ltb 0 m.parser.line.size h)
-
 text-whole : (done : List ℕ) (h : Head) → Reading done h → text_of done ≡ done
 text-whole done h (at-start p s f) = ap (text_part true) (sym (append-nil done)) ∙ f [] ∙ ap (λ (x : List ℕ). done ++ x) (part_none true) ∙ append-nil done
 text-whole done h (inside p f) = ap (text_part true) (sym (append-nil done)) ∙ f [] ∙ ap (λ (x : List ℕ). done ++ x) (part_none false) ∙ append-nil done
@@ -549,7 +524,7 @@ module _ (input : List ℕ) (m : Memory) (t : List ℕ) (sized : Sized (input_li
       parsed-of input _ t (first ∷ (ls ++ (broken (a ∷ l) ∷ []))) (cut-text_of input t (first ∷ ls) (a ∷ l) c) (cut-ground input t (first ∷ ls) (a ∷ l) c) sized stored u
       (gathered-step ls (broken (a ∷ l)) m g (with_step (unended m.parser)) (words_of 0 0 0) (broken-step (a ∷ l)) (broken-words (a ∷ l)) refl refl)
 
-  end-lines : (bytes : List ℕ) (first : Line) (ls : List Line) → m.parser.head.phase ≡ 4 → Cut input t (first ∷ ls) bytes → Buffered m.parser.line bytes
+  end-lines : (bytes : List ℕ) (first : Line) (ls : List Line) → m.parser.head.phase ≡ Grounds → Cut input t (first ∷ ls) bytes → Buffered m.parser.line bytes
       → m.parser.places ≡ places_in (first ∷ ls)
       → Gathered ls m
       → Parsed input (finished m)
@@ -563,7 +538,7 @@ module _ (input : List ℕ) (m : Memory) (t : List ℕ) (sized : Sized (input_li
 pub parsed : (input : List ℕ) (m : Memory) → Stands input m → Parsed input (finished m)
 parsed input m (in-text r s x o u g) =
     let e : text_of input ≡ input = text-whole input m.parser.head r in
-    let l : m.parser.head.phase < 3 = reading-low input m.parser.head r in
-    subst (Parsed input) (sym (unended-not m (λ z. omega arith))) (parsed-of input m input [] e (no_lines input e) s x (u ∙ no-places) g)
-parsed input m (in_opening t bytes p c s x f u g) = subst (Parsed input) (sym (unended-not m (λ z. omega arith))) (end-opening input m t s x bytes c u g)
+    let l : Low m.parser.head.phase = reading-low input m.parser.head r in
+    subst (Parsed input) (sym (unended-not m l.1)) (parsed-of input m input [] e (no_lines input e) s x (u ∙ no-places) g)
+parsed input m (in_opening t bytes p c s x f u g) = subst (Parsed input) (sym (unended-not m (λ z. cc))) (end-opening input m t s x bytes c u g)
 parsed input m (in_lines t bytes first ls p c s x f u g) = end-lines input m t s x bytes first ls p c f u g

@@ -1,28 +1,27 @@
 -- The parser by each way out of the code.
 --     mine    what the functions leave to show
 -- Assumes nothing.
-use mathlib.Core.Bool.{Bool, true, false, not, ◌&&◌}
+use mathlib.Core.Bool.{Bool, true, false, ◌&&◌, cond}
 use mathlib.Core.List.{List, [], ◌∷◌, ◌++◌}
 use mathlib.Core.Path.{◌≡◌, refl, ap, sym, ◌∙◌}
 use Prim.Native.Nat.{ℕ, ◌+◌, ◌-◌, ◌*◌, ◌%◌, ◌≤◌, ◌<◌}
 use native.Mathlib.Omega.{arith}
 use native.Mathlib.Numerals.{add-one}
-use mir.Syntax.{w64}
-use mir.Val.{Fits}
-use lib.Dec.{eqb, ltb}
+use lib.Dec.{eqb, ltb, leb}
 use borrow.Author.Rules.{rules}
-use borrow.Author.Tests.{eq-eqb, ne_eqb, lt-ltb, le-ltb, le-leb, lt-leb, not-true, not-false}
+use borrow.Author.Tests.{eq-eqb, ne_eqb, lt-ltb, le-ltb, le-leb, lt-leb}
 use lib.ListN.{length, get_or, take, set, replicate, length-set}
 use lib.Seq.{set_out, take-suc, take_all}
 use Rattle.meaning.specs.Text.{digit}
 use Rattle.grounds_steps.specs.Steps.{words_of, most_steps}
-use Rattle.text_lines.specs.Choice.{choose}
 use Rattle.grounds_intake.specs.Parsing.{byte_of, two_of, four_of, eight_of, assigns, place_of, places_of, formed, word_of}
-use Rattle.grounds_intake.specs.Machine.{grown, phase_after, end_after, start_after, head_after, empty_line, open_line, pushed, put_conclusion, wanted, noted, with_head, with_byte, with_places, with_conclusion, with_step, unended, no_conclusions, fresh, Memory, memory, after_step, after_line, taken, fed, finished, Becomes, EndsBy}
+use Rattle.grounds_intake.specs.Machine.{grown, phase_after, head_after, empty_line, open_line, pushed, put_conclusion, wanted, noted, with_head, with_byte, with_places, with_conclusion, with_step, unended, no_conclusions, fresh, Memory, memory, after_step, after_line, taken_text, taken_line, taken_in, taken, in_grounds, fed, finished, Becomes, EndsBy}
 use Rattle.grounds_intake.specs.declared.Head.{Head}
 use Rattle.grounds_intake.specs.declared.Buffer.{Buffer}
 use Rattle.grounds_intake.specs.declared.Noted.{Noted}
 use Rattle.grounds_intake.specs.declared.Parser.{Parser}
+use Rattle.grounds_intake.specs.declared.Phase.{Phase}
+use Rattle.grounds_intake.specs.declared.Phase.TheVariants.{Start, Zero, Inside, Assignment, Grounds, Beyond}
 
 -- ---- bytes
 
@@ -30,17 +29,18 @@ pub byte-is : (vs : List ℕ) (i h l : ℕ) → h ≡ get_or vs (i * 2) 0 → l 
 unfolding byte_of
 byte-is vs i h l e f = rw (e, f)
 
-pub two_is : (vs : List ℕ) (i x y : ℕ) → x ≡ byte_of vs i → y ≡ byte_of vs (i + 1) → x * 256 + y ≡ two_of vs i
-unfolding two_of
-two_is vs i x y e f = rw (e, f)
+module _ (vs : List ℕ) (i x y u w : ℕ) (g : u ≡ x) (h : w ≡ y) where
+  pub two_is : x ≡ byte_of vs i → y ≡ byte_of vs (i + 1) → u * 256 + w ≡ two_of vs i
+  unfolding two_of
+  two_is e f = rw (g, h, e, f)
 
-pub four_is : (vs : List ℕ) (i x y : ℕ) → x ≡ two_of vs i → y ≡ two_of vs (i + 2) → x * 65536 + y ≡ four_of vs i
-unfolding four_of
-four_is vs i x y e f = rw (e, f)
+  pub four_is : x ≡ two_of vs i → y ≡ two_of vs (i + 2) → u * 65536 + w ≡ four_of vs i
+  unfolding four_of
+  four_is e f = rw (g, h, e, f)
 
-pub eight_is : (vs : List ℕ) (i x y : ℕ) → x ≡ four_of vs i → y ≡ four_of vs (i + 4) → x * 4294967296 + y ≡ eight_of vs i
-unfolding eight_of
-eight_is vs i x y e f = rw (e, f)
+  pub eight_is : x ≡ four_of vs i → y ≡ four_of vs (i + 4) → u * 4294967296 + w ≡ eight_of vs i
+  unfolding eight_of
+  eight_is e f = rw (g, h, e, f)
 
 -- ---- spaces
 
@@ -60,112 +60,124 @@ value-past l at x e h = sym (set_out l at x (omega arith))
 
 -- ---- the text
 
-module _ (p b : ℕ) where
-  pub phase-feed : b ≡ 10 → 0 ≡ phase_after p b
+module _ (p : Phase) (b : ℕ) where
+  pub phase-feed : b ≡ 10 → Start ≡ phase_after p b
   unfolding phase_after
   phase-feed e = rw (eq-eqb b 10 e)
 
   module _ (f : b ≡ 10 → ⊥) where
-    pub phase-zero : p ≡ 0 → b ≡ 48 → 1 ≡ phase_after p b
+    pub phase-zero : p ≡ Start → b ≡ 48 → Zero ≡ phase_after p b
     unfolding phase_after
-    phase-zero e g = rw (ne_eqb b 10 f, eq-eqb p 0 e, eq-eqb b 48 g)
+    phase-zero e g = rw (ne_eqb b 10 f, e, eq-eqb b 48 g)
 
-    pub phase-zero-other : p ≡ 0 → (b ≡ 48 → ⊥) → 2 ≡ phase_after p b
+    pub phase-zero-other : p ≡ Start → (b ≡ 48 → ⊥) → Inside ≡ phase_after p b
     unfolding phase_after
-    phase-zero-other e g = rw (ne_eqb b 10 f, eq-eqb p 0 e, ne_eqb b 48 g, ne_eqb p 1 (λ h. omega arith))
+    phase-zero-other e g = rw (ne_eqb b 10 f, e, ne_eqb b 48 g)
 
-    pub phase-one : p ≡ 1 → b ≡ 56 → 3 ≡ phase_after p b
+    pub phase-one : p ≡ Zero → b ≡ 56 → Assignment ≡ phase_after p b
     unfolding phase_after
-    phase-one e g = rw (ne_eqb b 10 f, ne_eqb p 0 (λ h. omega arith), eq-eqb p 1 e, eq-eqb b 56 g)
+    phase-one e g = rw (ne_eqb b 10 f, e, eq-eqb b 56 g)
 
-    pub phase-one-other : p ≡ 1 → (b ≡ 56 → ⊥) → 2 ≡ phase_after p b
+    pub phase-one-other : p ≡ Zero → (b ≡ 56 → ⊥) → Inside ≡ phase_after p b
     unfolding phase_after
-    phase-one-other e g = rw (ne_eqb b 10 f, ne_eqb p 0 (λ h. omega arith), eq-eqb p 1 e, ne_eqb b 56 g)
+    phase-one-other e g = rw (ne_eqb b 10 f, e, ne_eqb b 56 g)
 
-    pub phase-rest : (p ≡ 0 → ⊥) → (p ≡ 1 → ⊥) → 2 ≡ phase_after p b
+    pub phase-rest : (p ≡ Start → ⊥) → (p ≡ Zero → ⊥) → Inside ≡ phase_after p b
     unfolding phase_after
-    phase-rest e g = rw (ne_eqb b 10 f, ne_eqb p 0 e, ne_eqb p 1 g)
+    phase-rest e g = go p refl
+      where
+        go : (q : Phase) → p ≡ q → Inside ≡ phase_after p b
+        go Start i = absurd (e i)
+        go Zero i = absurd (g i)
+        go Inside i = rw (ne_eqb b 10 f, i)
+        go Assignment i = rw (ne_eqb b 10 f, i)
+        go Grounds i = rw (ne_eqb b 10 f, i)
+        go Beyond i = rw (ne_eqb b 10 f, i)
 
-module _ (p start size : ℕ) where
-  pub end-open : p ≡ 3 → start ≡ end_after p start size
-  unfolding end_after
-  end-open e = rw (eq-eqb p 3 e)
+module _ (h : Head) (b : ℕ) (p : Phase) (n : ℕ) (x : p ≡ phase_after h.phase b) (y : n ≡ grown h.size 16385) where
+  pub advance-start : p ≡ Start → record { phase = p; size = n; start = n } ≡ head_after h b
+  unfolding head_after
+  advance-start e = rw (← x, ← y, e)
 
-  pub end_on : (p ≡ 3 → ⊥) → size ≡ end_after p start size
-  unfolding end_after
-  end_on e = rw (ne_eqb p 3 e)
+  pub advance-opens : p ≡ Assignment → record { phase = p; size = h.start; start = h.start } ≡ head_after h b
+  unfolding head_after
+  advance-opens e = rw (← x, ← y, e)
 
-  pub start-here : p ≡ 0 → size ≡ start_after p start size
-  unfolding start_after
-  start-here e = rw (eq-eqb p 0 e)
-
-  pub start-before : (p ≡ 0 → ⊥) → start ≡ start_after p start size
-  unfolding start_after
-  start-before e = rw (ne_eqb p 0 e)
-
-pub advance-is : (h : Head) (b p n e s : ℕ) → p ≡ phase_after h.phase b → n ≡ grown h.size 16385 → e ≡ end_after p h.start n → s ≡ start_after p h.start n
-    → record { phase = p; size = e; start = s } ≡ head_after h b
-unfolding head_after
-advance-is h b p n e s x y z w = rw (z, w, x, y)
+  pub advance-inside : (p ≡ Start → ⊥) → (p ≡ Assignment → ⊥) → record { phase = p; size = n; start = h.start } ≡ head_after h b
+  unfolding head_after
+  advance-inside f g = go p refl
+    where
+      go : (q : Phase) → p ≡ q → record { phase = p; size = n; start = h.start } ≡ head_after h b
+      go Start i = absurd (f i)
+      go Zero i = rw (← x, ← y, i)
+      go Inside i = rw (← x, ← y, i)
+      go Assignment i = absurd (g i)
+      go Grounds i = rw (← x, ← y, i)
+      go Beyond i = rw (← x, ← y, i)
 
 -- ---- a line
-
-pub both-off : (a : Bool) (v : ℕ) → not a ≡ true → false ≡ (a && ltb v 16)
-both-off a v e = rw (not-true a e)
-
-pub both-on : (a : Bool) (v : ℕ) → not a ≡ false → ltb v 16 ≡ (a && ltb v 16)
-both-on a v e = rw (not-false a e)
 
 pub push-is : (l : Buffer) (b v n : ℕ) (vs : List ℕ) (g : Bool) → v ≡ digit b → vs ≡ set l.values l.size v → n ≡ grown l.size 51 → g ≡ (l.good && ltb v 16)
     → record { values = vs; size = n; good = g } ≡ pushed l b
 unfolding pushed
 push-is l b v n vs g x y z w = rw (y, z, w, x)
 
+pub push-good : (l : Buffer) (b v n : ℕ) (vs : List ℕ) (g : Bool) → v ≡ digit b → vs ≡ set l.values l.size v → n ≡ grown l.size 51 → l.good ≡ true → g ≡ ltb v 16
+    → record { values = vs; size = n; good = g } ≡ pushed l b
+push-good l b v n vs g x y z w u = push-is l b v n vs g x y z (u ∙ rw w)
+
+pub push-bad : (l : Buffer) (b v n : ℕ) (vs : List ℕ) (g : Bool) → v ≡ digit b → vs ≡ set l.values l.size v → n ≡ grown l.size 51 → l.good ≡ false → g ≡ l.good
+    → record { values = vs; size = n; good = g } ≡ pushed l b
+push-bad l b v n vs g x y z w u = push-is l b v n vs g x y z (u ∙ rw w)
+
 module _ (good : Bool) (size : ℕ) (vs : List ℕ) where
   module _ (kind long : ℕ) where
-    pub formed-bad : not good ≡ true → false ≡ formed kind long good size vs
+    pub formed-bad : (r : Bool) → good ≡ false → r ≡ good → r ≡ formed kind long good size vs
     unfolding formed
-    formed-bad e = rw (not-true good e)
+    formed-bad r e f = f ∙ rw e
 
-    pub formed-size : not good ≡ false → (size ≡ long → ⊥) → false ≡ formed kind long good size vs
+    pub formed-size : (r : Bool) → good ≡ true → (size ≡ long → ⊥) → r ≡ eqb size long → r ≡ formed kind long good size vs
     unfolding formed
-    formed-size e h = rw (not-false good e, ne_eqb size long h)
+    formed-size r e h f = f ∙ rw (e, ne_eqb size long h)
 
-    pub formed-is : (x : ℕ) → not good ≡ false → size ≡ long → x ≡ byte_of vs 0 → eqb x kind ≡ formed kind long good size vs
+    pub formed-is : (x : ℕ) → good ≡ true → size ≡ long → x ≡ byte_of vs 0 → eqb x kind ≡ formed kind long good size vs
     unfolding formed
-    formed-is x e h f = rw (not-false good e, eq-eqb size long h, f)
+    formed-is x e h f = rw (e, eq-eqb size long h, f)
 
-  pub word_none : (i : ℕ) (b : Bool) → b ≡ formed 176 50 good size vs → not b ≡ true → 0 ≡ word_of good size vs i
+  pub word_none : (i : ℕ) (b : Bool) → b ≡ formed 176 50 good size vs → b ≡ false → 0 ≡ word_of good size vs i
   unfolding word_of
-  word_none i b e h = rw (← e, not-true b h)
+  word_none i b e h = rw (← e, h)
 
-  pub word-is : (i : ℕ) (b : Bool) (x : ℕ) → b ≡ formed 176 50 good size vs → not b ≡ false → x ≡ eight_of vs (i * 8 + 1) → x ≡ word_of good size vs i
+  pub word-is : (i : ℕ) (b : Bool) (x : ℕ) → b ≡ formed 176 50 good size vs → b ≡ true → x ≡ eight_of vs (i * 8 + 1) → x ≡ word_of good size vs i
   unfolding word_of
-  word-is i b x e h f = rw (← e, not-false b h) f
+  word-is i b x e h f = rw (← e, h) f
 
-  pub assigns-bad : not good ≡ true → false ≡ assigns good size vs
-  unfolding assigns
-  assigns-bad e = rw (not-true good e)
+  module _ (m n : ℕ) (i : m ≡ byte_of vs 1) (f : n ≡ m) where
+    pub assigns-bad : (r : Bool) → good ≡ false → r ≡ good → r ≡ assigns good size vs
+    unfolding assigns
+    assigns-bad r e g = g ∙ rw e
 
-  pub assigns-many : (n : ℕ) → not good ≡ false → n ≡ byte_of vs 1 → 4 < n → false ≡ assigns good size vs
-  unfolding assigns
-  assigns-many n e f h = rw (not-false good e, ← f, lt-leb n 4 h)
+    pub assigns-many : (r : Bool) → good ≡ true → 4 < n → r ≡ leb n 4 → r ≡ assigns good size vs
+    unfolding assigns
+    assigns-many r e h g = g ∙ rw (e, ← i, ← f, lt-leb n 4 h)
 
-  pub assigns-is : (n : ℕ) → not good ≡ false → n ≡ byte_of vs 1 → n ≤ 4 → eqb size (n * 2 + 4) ≡ assigns good size vs
-  unfolding assigns
-  assigns-is n e f h = rw (not-false good e, ← f, le-leb n 4 h)
+    pub assigns-is : good ≡ true → n ≤ 4 → eqb size (n * 2 + 4) ≡ assigns good size vs
+    unfolding assigns
+    assigns-is e h = rw (e, ← i, ← f, le-leb n 4 h)
 
-  pub place_none : (i : ℕ) (b : Bool) → b ≡ assigns good size vs → not b ≡ true → 255 ≡ place_of good size vs i
-  unfolding place_of
-  place_none i b e h = rw (← e, not-true b h)
+  module _ (i : ℕ) (b : Bool) (e : b ≡ assigns good size vs) where
+    pub place_none : b ≡ false → 255 ≡ place_of good size vs i
+    unfolding place_of
+    place_none h = rw (← e, h)
 
-  pub place-past : (i n : ℕ) (b : Bool) → b ≡ assigns good size vs → not b ≡ false → n ≡ byte_of vs 1 → n ≤ i → 255 ≡ place_of good size vs i
-  unfolding place_of
-  place-past i n b e h f k = rw (← e, not-false b h, ← f, le-ltb i n k)
+    module _ (m n : ℕ) (h : b ≡ true) (f : m ≡ byte_of vs 1) (g : n ≡ m) where
+      pub place-past : n ≤ i → 255 ≡ place_of good size vs i
+      unfolding place_of
+      place-past k = rw (← e, h, ← f, ← g, le-ltb i n k)
 
-  pub place_is : (i n x : ℕ) (b : Bool) → b ≡ assigns good size vs → not b ≡ false → n ≡ byte_of vs 1 → i < n → x ≡ byte_of vs (i + 2) → x ≡ place_of good size vs i
-  unfolding place_of
-  place_is i n x b e h f k g = rw (← e, not-false b h, ← f, lt-ltb i n k) g
+      pub place_is : (x y : ℕ) → i < n → x ≡ byte_of vs (i + 2) → y ≡ x → y ≡ place_of good size vs i
+      unfolding place_of
+      place_is x y k u w = rw (← e, h, ← f, ← g, lt-ltb i n k) (w ∙ u)
 
   pub places-are : (a b c d : ℕ) → a ≡ place_of good size vs 0 → b ≡ place_of good size vs 1 → c ≡ place_of good size vs 2 → d ≡ place_of good size vs 3
       → a ∷ b ∷ c ∷ d ∷ [] ≡ places_of good size vs
@@ -174,39 +186,35 @@ module _ (good : Bool) (size : ℕ) (vs : List ℕ) where
 
 -- ---- the conclusions
 
-pub conclusion-is : (n : Noted) (vs : List ℕ) (i a b : ℕ) → a ≡ four_of vs 2 → b ≡ two_of vs 10
-    → record {
-      conclusions =
-          record {
-            firsts = set n.conclusions.firsts i a;
-            differences = set n.conclusions.differences i b;
-          };
-      given = set n.given i 1;
-    } ≡ put_conclusion n vs i
-unfolding put_conclusion
-conclusion-is n vs i a b e f = rw (e, f)
-
-module _ (n : Noted) (vs : List ℕ) (x : ℕ) (e : x ≡ byte_of vs 1) where
+module _ (n : Noted) (vs : List ℕ) (y x : ℕ) (e : y ≡ byte_of vs 1) (d : x ≡ y) where
   pub note-zero : x ≡ 0 → n ≡ noted n vs
   unfolding noted wanted
-  note-zero h = rw (← e, le-ltb 0 x (omega arith))
+  note-zero h = rw (← e, ← d, le-ltb 0 x (omega arith))
 
   pub note-high : 16 < x → n ≡ noted n vs
   unfolding noted wanted
-  note-high h = rw (← e, lt-ltb 0 x (omega arith), lt-leb x 16 h)
+  note-high h = rw (← e, ← d, lt-ltb 0 x (omega arith), lt-leb x 16 h)
 
-  pub note-again : (x ≡ 0 → ⊥) → x ≤ 16 → (get_or n.given (x - 1) 0 ≡ 0 → ⊥) → n ≡ noted n vs
+  pub note-again : (x ≡ 0 → ⊥) → x ≤ 16 → get_or n.given (x - 1) false ≡ true → n ≡ noted n vs
   unfolding noted wanted
-  note-again f h k = rw (← e, lt-ltb 0 x (omega arith), le-leb x 16 h, ne_eqb (get_or n.given (x - 1) 0) 0 k)
+  note-again f h k = rw (← e, ← d, lt-ltb 0 x (omega arith), le-leb x 16 h, k)
 
-  pub note-first : (r : Noted) → (x ≡ 0 → ⊥) → x ≤ 16 → get_or n.given (x - 1) 0 ≡ 0 → r ≡ put_conclusion n vs (x - 1) → r ≡ noted n vs
-  unfolding noted wanted
-  note-first r f h k g = rw (← e, lt-ltb 0 x (omega arith), le-leb x 16 h, eq-eqb (get_or n.given (x - 1) 0) 0 k) g
+  pub note-first : (x ≡ 0 → ⊥) → x ≤ 16 → get_or n.given (x - 1) false ≡ false → (a b : ℕ) → a ≡ four_of vs 2 → b ≡ two_of vs 10
+      → record {
+        conclusions =
+            record {
+              firsts = set n.conclusions.firsts (x - 1) a;
+              differences = set n.conclusions.differences (x - 1) b;
+            };
+        given = set n.given (x - 1) true;
+      } ≡ noted n vs
+  unfolding noted wanted put_conclusion
+  note-first f h k a b g i = rw (← e, ← d, lt-ltb 0 x (omega arith), le-leb x 16 h, k, g, i)
 
 -- ---- the parser
 
 pub start_is : (l : Buffer) (n : Noted) → l ≡ open_line → n ≡ no_conclusions
-    → record { head = record { phase = 0; size = 0; start = 0 }; line = l; places = replicate 4 255; steps = 0; noted = n } ≡ fresh
+    → record { head = record { phase = Start; size = 0; start = 0 }; line = l; places = replicate 4 255; steps = 0; noted = n } ≡ fresh
 unfolding fresh
 start_is l n e f = rw (e, f)
 
@@ -221,7 +229,7 @@ unfolding with_byte
 with_byte_lem p b l e = rw e
 
 pub with-places : (p : Parser) (l : Buffer) (a : List ℕ) → l ≡ empty_line → a ≡ places_of p.line.good p.line.size p.line.values
-    → record { head = record { phase = 4; size = p.head.size; start = p.head.start }; line = l; places = a; steps = p.steps; noted = p.noted } ≡ with_places p
+    → record { head = record { phase = Grounds; size = p.head.size; start = p.head.start }; line = l; places = a; steps = p.steps; noted = p.noted } ≡ with_places p
 unfolding with_places
 with-places p l a e f = rw (e, f)
 
@@ -234,6 +242,87 @@ pub with-step : (p : Parser) (l : Buffer) (n : ℕ) → l ≡ empty_line → n �
     → record { head = p.head; line = l; places = p.places; steps = n; noted = p.noted } ≡ with_step p
 unfolding with_step
 with-step p l n e f = rw (e, f)
+
+-- ---- a byte, by where the parser stands
+
+module _ (b : ℕ) (m : Memory) where
+  in-text : (q : Phase) → (q ≡ Assignment → ⊥) → (q ≡ Grounds → ⊥) → (q ≡ Beyond → ⊥) → taken_in q b m ≡ taken_text b m
+  in-text Start f g h = refl
+  in-text Zero f g h = refl
+  in-text Inside f g h = refl
+  in-text Assignment f g h = absurd (f refl)
+  in-text Grounds f g h = absurd (g refl)
+  in-text Beyond f g h = absurd (h refl)
+
+  in-opening : (q : Phase) → q ≡ Assignment → taken_in q b m ≡ taken_line b (memory (with_places m.parser) m.text m.steps) m
+  in-opening q e = rw e
+
+  in-later : (q : Phase) → q ≡ Grounds → taken_in q b m ≡ taken_line b (after_line m) m
+  in-later q e = rw e
+
+  in-beyond : (q : Phase) → q ≡ Beyond → taken_in q b m ≡ taken_line b (after_line m) m
+  in-beyond q e = rw e
+
+  at-feed : (n : Memory) → b ≡ 10 → taken_line b n m ≡ n
+  unfolding taken_line
+  at-feed n e = rw (eq-eqb b 10 e)
+
+  at-other : (n : Memory) → (b ≡ 10 → ⊥) → taken_line b n m ≡ memory (with_byte m.parser b) m.text m.steps
+  unfolding taken_line
+  at-other n e = rw (ne_eqb b 10 e)
+
+  pub taken-text : (m.parser.head.phase ≡ Assignment → ⊥) → (m.parser.head.phase ≡ Grounds → ⊥) → (m.parser.head.phase ≡ Beyond → ⊥)
+      → taken b m ≡ memory (with_head m.parser b) (set m.text m.parser.head.size b) m.steps
+  unfolding taken taken_text
+  taken-text f g h = in-text m.parser.head.phase f g h
+
+  pub taken-opening : m.parser.head.phase ≡ Assignment → (b ≡ 10 → ⊥) → taken b m ≡ memory (with_byte m.parser b) m.text m.steps
+  unfolding taken
+  taken-opening h e = in-opening m.parser.head.phase h ∙ at-other _ e
+
+  pub taken_places : m.parser.head.phase ≡ Assignment → b ≡ 10 → taken b m ≡ memory (with_places m.parser) m.text m.steps
+  unfolding taken
+  taken_places h e = in-opening m.parser.head.phase h ∙ at-feed _ e
+
+  pub taken-byte : m.parser.head.phase ≡ Grounds → (b ≡ 10 → ⊥) → taken b m ≡ memory (with_byte m.parser b) m.text m.steps
+  unfolding taken
+  taken-byte h e = in-later m.parser.head.phase h ∙ at-other _ e
+
+  pub taken-line : m.parser.head.phase ≡ Grounds → b ≡ 10 → taken b m ≡ after_line m
+  unfolding taken
+  taken-line h e = in-later m.parser.head.phase h ∙ at-feed _ e
+
+  taken-beyond-byte : m.parser.head.phase ≡ Beyond → (b ≡ 10 → ⊥) → taken b m ≡ memory (with_byte m.parser b) m.text m.steps
+  unfolding taken
+  taken-beyond-byte h e = in-beyond m.parser.head.phase h ∙ at-other _ e
+
+  taken-beyond-line : m.parser.head.phase ≡ Beyond → b ≡ 10 → taken b m ≡ after_line m
+  unfolding taken
+  taken-beyond-line h e = in-beyond m.parser.head.phase h ∙ at-feed _ e
+
+in-grounds : (q : Phase) → q ≡ Grounds → in_grounds q ≡ true
+in-grounds q e = rw e
+
+not-grounds : (q : Phase) → (q ≡ Grounds → ⊥) → in_grounds q ≡ false
+not-grounds Start f = refl
+not-grounds Zero f = refl
+not-grounds Inside f = refl
+not-grounds Assignment f = refl
+not-grounds Grounds f = absurd (f refl)
+not-grounds Beyond f = refl
+
+module _ (m : Memory) where
+  pub unended-not : (m.parser.head.phase ≡ Grounds → ⊥) → finished m ≡ m
+  unfolding finished
+  unended-not h = rw (not-grounds m.parser.head.phase h)
+
+  pub unended-none : m.parser.head.phase ≡ Grounds → m.parser.line.size ≡ 0 → finished m ≡ m
+  unfolding finished
+  unended-none e h = rw (in-grounds m.parser.head.phase e, le-ltb 0 m.parser.line.size (omega arith))
+
+  pub unended-step : m.parser.head.phase ≡ Grounds → 0 < m.parser.line.size → finished m ≡ after_step (memory (unended m.parser) m.text m.steps)
+  unfolding finished
+  unended-step e h = rw (in-grounds m.parser.head.phase e, lt-ltb 0 m.parser.line.size h)
 
 module _ (p : Parser) (ss : List (List ℕ)) (r : Parser) (ss' : List (List ℕ)) where
   pub add_step : (x y z at : ℕ) → x ≡ word_of p.line.good p.line.size p.line.values 0 → y ≡ word_of p.line.good p.line.size p.line.values 1
@@ -250,15 +339,34 @@ module _ (p : Parser) (ss : List (List ℕ)) (r : Parser) (ss' : List (List ℕ)
   unfolding after_line
   end_step b e h w = record { same = λ text. rw (← e, h) (w.same text) }
 
-  pub take-line : (text : List ℕ) (b : ℕ) → 3 ≤ p.head.phase → b ≡ 10 → (p.head.phase ≡ 3 → ⊥) → EndsBy after_line p ss r ss'
-      → Becomes (taken b (memory p text ss)) r text ss'
-  unfolding taken
-  take-line text b h e f w = record { same = rw (le-ltb p.head.phase 3 h, eq-eqb b 10 e, ne_eqb p.head.phase 3 f) (w.same text) }
+  pub take-line : (text : List ℕ) (b : ℕ) → p.head.phase ≡ Grounds → b ≡ 10 → EndsBy after_line p ss r ss' → Becomes (taken b (memory p text ss)) r text ss'
+  take-line text b h e w = record { same = w.same text ∙ sym (taken-line b (memory p text ss) h e) }
 
-  pub finish-step : (q : Parser) → p.head.phase ≡ 4 → (p.line.size ≡ 0 → ⊥) → q ≡ unended p → EndsBy after_step q ss r ss'
-      → EndsBy finished p ss r ss'
-  unfolding finished
-  finish-step q e h f w = record { same = λ text. rw (eq-eqb p.head.phase 4 e, lt-ltb 0 p.line.size (omega arith), ← f) (w.same text) }
+  pub take-beyond-line : (text : List ℕ) (b : ℕ) → p.head.phase ≡ Beyond → b ≡ 10 → EndsBy after_line p ss r ss' → Becomes (taken b (memory p text ss)) r text ss'
+  take-beyond-line text b h e w = record { same = w.same text ∙ sym (taken-beyond-line b (memory p text ss) h e) }
+
+  -- the line without its feed
+  abbrev cut : Parser
+  cut =
+      record {
+        head = p.head;
+        line = record { values = p.line.values; size = p.line.size; good = false };
+        places = p.places;
+        steps = p.steps;
+        noted = p.noted;
+      }
+
+  cut-is : cut ≡ unended p
+  unfolding unended
+  cut-is = refl
+
+  pub finish-step : p.head.phase ≡ Grounds → (p.line.size ≡ 0 → ⊥) → EndsBy after_step cut ss r ss' → EndsBy finished p ss r ss'
+  finish-step e h w =
+      record {
+        same = λ text. w.same text
+            ∙ ap (λ (x : Parser). after_step (memory x text ss)) cut-is
+            ∙ sym (unended-step (memory p text ss) e (omega arith));
+      }
 
 module _ (p : Parser) (ss : List (List ℕ)) where
   pub end-conclusion : (r : Parser) (b : Bool) → b ≡ formed 177 26 p.line.good p.line.size p.line.values → b ≡ true → r ≡ with_conclusion p
@@ -266,27 +374,28 @@ module _ (p : Parser) (ss : List (List ℕ)) where
   unfolding after_line
   end-conclusion r b e h f = record { same = λ text. rw (← e, h, f) }
 
-  pub finish-not : (p.head.phase ≡ 4 → ⊥) → EndsBy finished p ss p ss
-  unfolding finished
-  finish-not h = record { same = λ text. rw (ne_eqb p.head.phase 4 h) }
+  pub finish-not : (p.head.phase ≡ Grounds → ⊥) → EndsBy finished p ss p ss
+  finish-not h = record { same = λ text. sym (unended-not (memory p text ss) h) }
 
-  pub finish-empty : p.head.phase ≡ 4 → p.line.size ≡ 0 → EndsBy finished p ss p ss
-  unfolding finished
-  finish-empty e h = record { same = λ text. rw (eq-eqb p.head.phase 4 e, le-ltb 0 p.line.size (omega arith)) }
+  pub finish-empty : p.head.phase ≡ Grounds → p.line.size ≡ 0 → EndsBy finished p ss p ss
+  finish-empty e h = record { same = λ text. sym (unended-none (memory p text ss) e h) }
 
   module _ (text : List ℕ) (b : ℕ) (r : Parser) where
-    pub take-text : (text' : List ℕ) (at : ℕ) → p.head.phase < 3 → at ≡ p.head.size → text' ≡ set text at b → r ≡ with_head p b
+    pub take-text : (text' : List ℕ) → (p.head.phase ≡ Assignment → ⊥) → (p.head.phase ≡ Grounds → ⊥) → (p.head.phase ≡ Beyond → ⊥) → text' ≡ set text p.head.size b → r ≡ with_head p b
         → Becomes (taken b (memory p text ss)) r text' ss
-    unfolding taken
-    take-text text' at h a e f = record { same = rw (lt-ltb p.head.phase 3 h, e, a, f) }
+    take-text text' h k l e f = record { same = rw (e, f) (sym (taken-text b (memory p text ss) h k l)) }
 
-    pub take-byte : 3 ≤ p.head.phase → (b ≡ 10 → ⊥) → r ≡ with_byte p b → Becomes (taken b (memory p text ss)) r text ss
-    unfolding taken
-    take-byte h e f = record { same = rw (le-ltb p.head.phase 3 h, ne_eqb b 10 e, f) }
+    pub take-opening : p.head.phase ≡ Assignment → (b ≡ 10 → ⊥) → r ≡ with_byte p b → Becomes (taken b (memory p text ss)) r text ss
+    take-opening h e f = record { same = rw f (sym (taken-opening b (memory p text ss) h e)) }
 
-    pub take_places : 3 ≤ p.head.phase → b ≡ 10 → p.head.phase ≡ 3 → r ≡ with_places p → Becomes (taken b (memory p text ss)) r text ss
-    unfolding taken
-    take_places h e g f = record { same = rw (le-ltb p.head.phase 3 h, eq-eqb b 10 e, eq-eqb p.head.phase 3 g, f) }
+    pub take-byte : p.head.phase ≡ Grounds → (b ≡ 10 → ⊥) → r ≡ with_byte p b → Becomes (taken b (memory p text ss)) r text ss
+    take-byte h e f = record { same = rw f (sym (taken-byte b (memory p text ss) h e)) }
+
+    pub take-beyond-byte : p.head.phase ≡ Beyond → (b ≡ 10 → ⊥) → r ≡ with_byte p b → Becomes (taken b (memory p text ss)) r text ss
+    take-beyond-byte h e f = record { same = rw f (sym (taken-beyond-byte b (memory p text ss) h e)) }
+
+    pub take_places : p.head.phase ≡ Assignment → b ≡ 10 → r ≡ with_places p → Becomes (taken b (memory p text ss)) r text ss
+    take_places h e f = record { same = rw f (sym (taken_places b (memory p text ss) h e)) }
 
 -- ---- the spaces keep their lengths
 
@@ -294,9 +403,9 @@ pub record Alike (m n : Memory) : Type 0 where
   pub text : length n.text ≡ length m.text
   pub steps : length n.steps ≡ length m.steps
 
-alike-choose : (m x y : Memory) (b : Bool) → Alike m x → Alike m y → Alike m (choose b x y)
-alike-choose m x y true p q = p
-alike-choose m x y false p q = q
+alike-cond : (m x y : Memory) (b : Bool) → Alike m x → Alike m y → Alike m (cond b x y)
+alike-cond m x y true p q = p
+alike-cond m x y false p q = q
 
 step-alike : (m : Memory) → Alike m (after_step m)
 unfolding after_step
@@ -305,16 +414,28 @@ step-alike m = record { text = refl; steps = simp length-set }
 line-alike : (m : Memory) → Alike m (after_line m)
 unfolding after_line
 line-alike m =
-    alike-choose m _ _ (formed 177 26 m.parser.line.good m.parser.line.size m.parser.line.values) (record { text = refl; steps = refl })
+    alike-cond m _ _ (formed 177 26 m.parser.line.good m.parser.line.size m.parser.line.values) (record { text = refl; steps = refl })
     (step-alike m)
+
+text-alike : (b : ℕ) (m : Memory) → Alike m (taken_text b m)
+unfolding taken_text
+text-alike b m = record { text = simp length-set; steps = refl }
+
+ended-alike : (b : ℕ) (m n : Memory) → Alike m n → Alike m (taken_line b n m)
+unfolding taken_line
+ended-alike b m n w = alike-cond m _ _ (eqb b 10) w (record { text = refl; steps = refl })
 
 taken-alike : (b : ℕ) (m : Memory) → Alike m (taken b m)
 unfolding taken
-taken-alike b m =
-    alike-choose m _ _ (ltb m.parser.head.phase 3) (record { text = simp length-set; steps = refl })
-    (alike-choose m _ _ (eqb b 10)
-    (alike-choose m _ _ (eqb m.parser.head.phase 3) (record { text = refl; steps = refl }) (line-alike m))
-    (record { text = refl; steps = refl }))
+taken-alike b m = go m.parser.head.phase
+  where
+    go : (q : Phase) → Alike m (taken_in q b m)
+    go Start = text-alike b m
+    go Zero = text-alike b m
+    go Inside = text-alike b m
+    go Assignment = ended-alike b m _ (record { text = refl; steps = refl })
+    go Grounds = ended-alike b m _ (line-alike m)
+    go Beyond = ended-alike b m _ (line-alike m)
 
 pub fed-alike : (l : List ℕ) (m : Memory) → Alike m (fed l m)
 unfolding fed
@@ -334,7 +455,6 @@ fed-snoc (a ∷ l) b m = fed-snoc l b (taken a m)
 -- the first k bytes of a piece are taken
 pub record Feeding (m : Memory) (piece : List ℕ) (k : ℕ) (q : Parser) (text : List ℕ) (ss : List (List ℕ)) : Type 0 where
   pub within : k ≤ length piece
-  pub short : length piece < 18446744073709551615
   pub same : memory q text ss ≡ fed (take k piece) m
 
 pub feeding-step : {m : Memory} {piece : List ℕ} {k : ℕ} {q : Parser} {text : List ℕ} {ss : List (List ℕ)} {r : Parser} {text' : List ℕ} {ss' : List (List ℕ)} → Feeding m piece k q text ss
@@ -344,7 +464,6 @@ pub feeding-step : {m : Memory} {piece : List ℕ} {k : ℕ} {q : Parser} {text 
 feeding-step {m} {piece} {k} w h s =
     record {
       within = omega arith;
-      short = w.short;
       same =
           s.same
           ∙ ap (taken (get_or piece k 0)) w.same
@@ -352,8 +471,10 @@ feeding-step {m} {piece} {k} w h s =
           ∙ rw (add-one k, take-suc piece k 0 h);
     }
 
-pub fits_more : {m : Memory} {piece : List ℕ} {k : ℕ} {q : Parser} {text : List ℕ} {ss : List (List ℕ)} → Feeding m piece k q text ss → k < length piece → Fits w64 (k + 1)
-fits_more w h = omega (arith, w.short)
+pub feeding-start : (m : Memory) (piece : List ℕ) (q : Parser) (text : List ℕ) (ss : List (List ℕ)) → memory q text ss ≡ m
+    → Feeding m piece 0 q text ss
+unfolding fed
+feeding-start m piece q text ss e = record { within = omega arith; same = e }
 
 module _ (p : Parser) (piece : List ℕ) (k : ℕ) (q : Parser) (text : List ℕ) (ss : List (List ℕ)) (text' : List ℕ) (ss' : List (List ℕ))
     (w : Feeding (memory p text ss) piece k q text' ss') where
@@ -367,30 +488,16 @@ pub feeding-done : (m : Memory) (piece : List ℕ) (k : ℕ) (q : Parser) (text 
     → Becomes (fed piece m) q text ss
 feeding-done m piece k q text ss w h = record { same = w.same ∙ rw (take_all k piece h) }
 
+pub ruleset bytes = (byte-is, two_is, four_is, eight_is)
+
 pub ruleset mine = (
   rules,
-  byte-is,
-  two_is,
-  four_is,
-  eight_is,
   grow-up,
   grow-stay,
   put-past,
   value-past,
-  phase-feed,
-  phase-zero,
-  phase-zero-other,
-  phase-one,
-  phase-one-other,
-  phase-rest,
-  end-open,
-  end_on,
-  start-here,
-  start-before,
-  advance-is,
-  both-off,
-  both-on,
-  push-is,
+  push-good,
+  push-bad,
   formed-bad,
   formed-size,
   formed-is,
@@ -403,32 +510,46 @@ pub ruleset mine = (
   place-past,
   place_is,
   places-are,
-  conclusion-is,
   note-zero,
   note-high,
   note-again,
   note-first,
   start_is,
-  with-head,
-  with_byte_lem,
   with-places,
-  with-conclusion,
-  with-step,
+)
+
+pub ruleset phases = (
+  phase-feed,
+  phase-zero,
+  phase-zero-other,
+  phase-one,
+  phase-one-other,
+  phase-rest,
+  advance-start,
+  advance-opens,
+  advance-inside,
 )
 
 pub ruleset ends = (
   rules,
+  with-head,
+  with_byte_lem,
+  with-conclusion,
+  with-step,
   add_step,
   end_step,
   end-conclusion,
   take-line,
+  take-beyond-line,
   finish-step,
   finish-not,
   finish-empty,
   take-text,
+  take-opening,
   take-byte,
+  take-beyond-byte,
   take_places,
-  fits_more,
+  feeding-start,
   feeding-step,
   feeding-done,
   text-long,

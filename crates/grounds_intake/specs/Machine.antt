@@ -4,31 +4,52 @@
 --     taken, fed, finished          the memory after one byte, after some, and after the last
 --     Becomes, EndsBy               what code does to a memory
 -- Sizes stop growing one above the most that is asked for, and a place past a space is not stored. Assumes nothing.
-use Rattle.std.specs.Prelude.{Bool, true, false, ◌&&◌, List, [], ◌∷◌, ◌≡◌, ℕ, ◌+◌, ◌-◌, eqb, ltb, leb, get_or, set, replicate}
+use Rattle.std.specs.Prelude.{Bool, true, false, not, ◌&&◌, List, [], ◌∷◌, ◌≡◌, ℕ, ◌+◌, ◌-◌, eqb, ltb, leb, get_or, set, replicate, cond}
 use Rattle.meaning.specs.Text.{digit}
 use Rattle.meaning.specs.Replies.{input_limit}
 use Rattle.runs.specs.Limits.{most_literals, most_variables, unused_place}
 use Rattle.grounds_steps.specs.Steps.{most_steps}
-use Rattle.text_lines.specs.Choice.{choose}
 use Rattle.grounds_intake.specs.Parsing.{byte_of, two_of, four_of, places_of, is_conclusion, step_words}
 use Rattle.grounds_intake.specs.declared.Head.{Head}
 use Rattle.grounds_intake.specs.declared.Buffer.{Buffer}
 use Rattle.grounds_intake.specs.declared.Noted.{Noted}
 use Rattle.grounds_intake.specs.declared.Parser.{Parser}
+use Rattle.grounds_intake.specs.declared.Phase.{Phase}
+use Rattle.grounds_intake.specs.declared.Phase.TheVariants.{Start, Zero, Inside, Assignment, Grounds, Beyond}
 
 unfoldable pub grown : ℕ → ℕ → ℕ
-grown n most = choose (ltb n most) (n + 1) n
+grown n most = cond (ltb n most) (n + 1) n
 
--- ---- in the text: 0 at a line's start, 1 after a digit 0 there, 2 further on; 3 once a line begins with 08
-unfoldable pub phase_after : ℕ → ℕ → ℕ
-phase_after phase b = choose (eqb b 10) 0 (choose (eqb phase 0 && eqb b 48) 1 (choose (eqb phase 1 && eqb b 56) 3 2))
+-- ---- in the text
+
+-- after a byte that is no feed
+abbrev pub inside_after : Phase → ℕ → Phase
+inside_after Start b = cond (eqb b 48) Zero Inside
+inside_after Zero b = cond (eqb b 56) Assignment Inside
+inside_after Inside b = Inside
+inside_after Assignment b = Inside
+inside_after Grounds b = Inside
+inside_after Beyond b = Inside
+
+unfoldable pub phase_after : Phase → ℕ → Phase
+phase_after phase b = cond (eqb b 10) Start (inside_after phase b)
 
 -- where the text ends, and where its last line begins
-unfoldable pub end_after : ℕ → ℕ → ℕ → ℕ
-end_after phase start size = choose (eqb phase 3) start size
+abbrev pub end_after : Phase → ℕ → ℕ → ℕ
+end_after Start start size = size
+end_after Zero start size = size
+end_after Inside start size = size
+end_after Assignment start size = start
+end_after Grounds start size = size
+end_after Beyond start size = size
 
-unfoldable pub start_after : ℕ → ℕ → ℕ → ℕ
-start_after phase start size = choose (eqb phase 0) size start
+abbrev pub start_after : Phase → ℕ → ℕ → ℕ
+start_after Start start size = size
+start_after Zero start size = start
+start_after Inside start size = start
+start_after Assignment start size = start
+start_after Grounds start size = start
+start_after Beyond start size = start
 
 unfoldable pub head_after : Head → ℕ → Head
 head_after h b =
@@ -58,14 +79,14 @@ put_conclusion n vs i =
             firsts = set n.conclusions.firsts i (four_of vs 2);
             differences = set n.conclusions.differences i (two_of vs 10);
           };
-      given = set n.given i 1;
+      given = set n.given i true;
     }
 
-unfoldable pub wanted : List ℕ → ℕ → Bool
-wanted given x = ltb 0 x && (leb x most_literals && eqb (get_or given (x - 1) 0) 0)
+unfoldable pub wanted : List Bool → ℕ → Bool
+wanted given x = ltb 0 x && (leb x most_literals && not (get_or given (x - 1) false))
 
 unfoldable pub noted : Noted → List ℕ → Noted
-noted n vs = choose (wanted n.given (byte_of vs 1)) (put_conclusion n vs (byte_of vs 1 - 1)) n
+noted n vs = cond (wanted n.given (byte_of vs 1)) (put_conclusion n vs (byte_of vs 1 - 1)) n
 
 -- ---- the parser
 
@@ -79,7 +100,7 @@ with_byte p b = record { head = p.head; line = pushed p.line b; places = p.place
 unfoldable pub with_places : Parser → Parser
 with_places p =
     record {
-      head = record { phase = 4; size = p.head.size; start = p.head.start };
+      head = record { phase = Grounds; size = p.head.size; start = p.head.start };
       line = empty_line;
       places = places_of p.line.good p.line.size p.line.values;
       steps = p.steps;
@@ -101,11 +122,11 @@ unfoldable pub no_conclusions : Noted
 no_conclusions =
     record {
       conclusions = record { firsts = replicate most_literals 0; differences = replicate most_literals 0 };
-      given = replicate most_literals 0;
+      given = replicate most_literals false;
     }
 
 unfoldable pub fresh : Parser
-fresh = record { head = record { phase = 0; size = 0; start = 0 }; line = open_line; places = replicate most_variables unused_place; steps = 0; noted = no_conclusions }
+fresh = record { head = record { phase = Start; size = 0; start = 0 }; line = open_line; places = replicate most_variables unused_place; steps = 0; noted = no_conclusions }
 
 -- ---- the parser and the spaces
 
@@ -128,26 +149,44 @@ after_step m =
 
 unfoldable pub after_line : Memory → Memory
 after_line m =
-    choose (is_conclusion m.parser.line.good m.parser.line.size m.parser.line.values)
+    cond (is_conclusion m.parser.line.good m.parser.line.size m.parser.line.values)
     (memory (with_conclusion m.parser) m.text m.steps)
     (after_step m)
 
+-- a byte of the text, of the 08 line, of a later line
+unfoldable pub taken_text : ℕ → Memory → Memory
+taken_text b m = memory (with_head m.parser b) (set m.text m.parser.head.size b) m.steps
+
+unfoldable pub taken_line : ℕ → Memory → Memory → Memory
+taken_line b ended m = cond (eqb b 10) ended (memory (with_byte m.parser b) m.text m.steps)
+
+abbrev pub taken_in : Phase → ℕ → Memory → Memory
+taken_in Start b m = taken_text b m
+taken_in Zero b m = taken_text b m
+taken_in Inside b m = taken_text b m
+taken_in Assignment b m = taken_line b (memory (with_places m.parser) m.text m.steps) m
+taken_in Grounds b m = taken_line b (after_line m) m
+taken_in Beyond b m = taken_line b (after_line m) m
+
 unfoldable pub taken : ℕ → Memory → Memory
-taken b m =
-    let p : Parser = m.parser in
-    choose (ltb p.head.phase 3)
-    (memory (with_head p b) (set m.text p.head.size b) m.steps)
-    (choose (eqb b 10)
-    (choose (eqb p.head.phase 3) (memory (with_places p) m.text m.steps) (after_line m))
-    (memory (with_byte p b) m.text m.steps))
+taken b m = taken_in m.parser.head.phase b m
 
 unfoldable pub fed : List ℕ → Memory → Memory
 fed [] m = m
 fed (b ∷ l) m = fed l (taken b m)
 
+-- whether a line of the grounds is open
+abbrev pub in_grounds : Phase → Bool
+in_grounds Start = false
+in_grounds Zero = false
+in_grounds Inside = false
+in_grounds Assignment = false
+in_grounds Grounds = true
+in_grounds Beyond = false
+
 unfoldable pub finished : Memory → Memory
 finished m =
-    choose (eqb m.parser.head.phase 4 && ltb 0 m.parser.line.size) (after_step (memory (unended m.parser) m.text m.steps)) m
+    cond (in_grounds m.parser.head.phase && ltb 0 m.parser.line.size) (after_step (memory (unended m.parser) m.text m.steps)) m
 
 -- ---- what code does to them
 

@@ -4,12 +4,11 @@
 --     places_in                     the assignment: four rows by the 08 line, 255 where it gives none
 --     steps_in, conclusions_in       the three words of each later line that is no conclusion, 0 where the line is malformed; the conclusions
 -- A line counts by whether it is digits alone with a feed behind them, how long it is, and the values of its digits. Assumes nothing.
-use Rattle.std.specs.Prelude.{Bool, true, false, ◌&&◌, List, [], ◌∷◌, map, ℕ, ◌+◌, ◌*◌, ◌%◌, eqb, ltb, leb, length, get_or, drop}
+use Rattle.std.specs.Prelude.{Bool, true, false, ◌&&◌, List, [], ◌∷◌, map, ℕ, ◌+◌, ◌*◌, ◌%◌, eqb, ltb, leb, length, get_or, drop, cond}
 use Rattle.meaning.specs.Text.{Line, linefeed, lines_of, digit}
 use Rattle.meaning.specs.Grounds.{Conclusion}
 use Rattle.runs.specs.Limits.{unused_place}
 use Rattle.grounds_steps.specs.Steps.{words_of}
-use Rattle.text_lines.specs.Choice.{choose}
 
 -- ---- the text and the lines after it
 
@@ -22,7 +21,7 @@ begins (a ∷ b ∷ l) = eqb a 48 && eqb b 56
 -- the bytes up to a line that begins so, from a line's start or from inside a line
 unfoldable pub text_part : Bool → List ℕ → List ℕ
 text_part fresh [] = []
-text_part fresh (b ∷ l) = choose (fresh && begins (b ∷ l)) [] (b ∷ text_part (eqb b linefeed) l)
+text_part fresh (b ∷ l) = cond (fresh && begins (b ∷ l)) [] (b ∷ text_part (eqb b linefeed) l)
 
 abbrev pub text_of : List ℕ → List ℕ
 text_of input = text_part true input
@@ -60,7 +59,7 @@ unfoldable pub assigns : Bool → ℕ → List ℕ → Bool
 assigns good size vs = good && (leb (byte_of vs 1) 4 && eqb size (byte_of vs 1 * 2 + 4))
 
 unfoldable pub place_of : Bool → ℕ → List ℕ → ℕ → ℕ
-place_of good size vs i = choose (assigns good size vs && ltb i (byte_of vs 1)) (byte_of vs (i + 2)) unused_place
+place_of good size vs i = cond (assigns good size vs && ltb i (byte_of vs 1)) (byte_of vs (i + 2)) unused_place
 
 unfoldable pub places_of : Bool → ℕ → List ℕ → List ℕ
 places_of good size vs = place_of good size vs 0 ∷ place_of good size vs 1 ∷ place_of good size vs 2 ∷ place_of good size vs 3 ∷ []
@@ -82,7 +81,7 @@ is_conclusion = formed 177 26
 
 -- of a malformed line every word is 0, which is kind 00
 unfoldable pub word_of : Bool → ℕ → List ℕ → ℕ → ℕ
-word_of good size vs i = choose (is_step good size vs) (eight_of vs (i * 8 + 1)) 0
+word_of good size vs i = cond (is_step good size vs) (eight_of vs (i * 8 + 1)) 0
 
 -- bytes 6 to 9 and 12 are not read
 unfoldable pub conclusion_of : List ℕ → Conclusion
@@ -97,8 +96,8 @@ step_words good size vs = words_of (word_of good size vs 0) (word_of good size v
 
 unfoldable pub steps_in : List Line → List (List ℕ)
 steps_in [] = []
-steps_in (l ∷ ls) = choose (concludes l) (steps_in ls) (step_words (good_line l) (length l.bytes) (digits_of l) ∷ steps_in ls)
+steps_in (l ∷ ls) = cond (concludes l) (steps_in ls) (step_words (good_line l) (length l.bytes) (digits_of l) ∷ steps_in ls)
 
 unfoldable pub conclusions_in : List Line → List Conclusion
 conclusions_in [] = []
-conclusions_in (l ∷ ls) = choose (concludes l) (conclusion_of (digits_of l) ∷ conclusions_in ls) (conclusions_in ls)
+conclusions_in (l ∷ ls) = cond (concludes l) (conclusion_of (digits_of l) ∷ conclusions_in ls) (conclusions_in ls)

@@ -7,26 +7,36 @@ mod notes;
 mod opening;
 mod spaces;
 
-ghost use Rattle.std.specs.Prelude.{◌≡◌, ◌<◌, length, get_or};
-ghost use Rattle.grounds_intake.specs.Machine.{with_head, with_byte, with_places, with_conclusion, with_step, unended, fresh, memory, after_step, after_line, taken, fed, finished, Becomes, EndsBy};
+ghost use Rattle.std.specs.Prelude.{◌≡◌};
+ghost use Rattle.grounds_intake.specs.Machine.{with_places, fresh, memory, after_step, after_line, taken, fed, finished, Becomes, EndsBy};
 
 use grounds_steps::{STEPS, WORDS, put_step};
 use grounds_verdict::Conclusions;
-use lines::{empty_line, formed, open_line, places, push, word};
-use notes::{no_conclusions, note};
-use opening::advance;
 use runs::limits::{LITERALS, UNUSED, VARIABLES};
 use spaces::{grow, put};
 
-// The text: 0 at a line's start, 1 after a digit 0 there, 2 further on; 3 in the 08 line, 4 after it. How many bytes it has, and where its last line begins.
+// Where the parser stands: in the text at a line's start, after a digit 0 there, or further on; in the 08 line; or in a line after it.
+// No bytes lead to `Beyond`: there lines are taken as in the grounds, and a last line without its feed is not.
+#[derive(Clone, Copy, Debug, PartialEq, Eq)]
+pub enum Phase {
+    Start,
+    Zero,
+    Inside,
+    Assignment,
+    Grounds,
+    Beyond,
+}
+
+// The text: how many bytes it has, and where its last line begins.
 #[derive(Clone, Copy)]
 pub struct Head {
-    pub phase: u8,
+    pub phase: Phase,
     pub size: usize,
     pub start: usize,
 }
 
 // A line: the values of its digits, how many there are, and whether all are digits.
+// No slice: the bytes come in pieces, and the parser keeps what it has of a line.
 #[derive(Clone, Copy)]
 pub struct Buffer {
     pub values: [u8; LINE],
@@ -38,7 +48,7 @@ pub struct Buffer {
 #[derive(Clone, Copy)]
 pub struct Noted {
     pub conclusions: Conclusions,
-    pub given: [u8; LITERALS],
+    pub given: [bool; LITERALS],
 }
 
 #[derive(Clone, Copy)]
@@ -51,11 +61,11 @@ pub struct Parser {
 }
 
 // The first byte of a step's line and of a conclusion's, and how many digits such a line has.
-const STEP: u64 = 176;
+const STEP: u8 = 176;
 
 const STEP_DIGITS: usize = 50;
 
-const CONCLUSION: u64 = 177;
+const CONCLUSION: u8 = 177;
 
 const CONCLUSION_DIGITS: usize = 26;
 
@@ -69,133 +79,66 @@ const PAST_STEPS: usize = STEPS + 1;
 pub fn start() -> Parser
     ensures starts { result ≡ fresh }
 {
-    let head = Head {
-        phase: 0,
-        size: 0,
-        start: 0,
-    };
-    let line = open_line();
-    let noted = no_conclusions();
     Parser {
-        head,
-        line,
+        head: Head {
+            phase: Phase::Start,
+            size: 0,
+            start: 0,
+        },
+        line: Buffer::open(),
         places: [UNUSED; VARIABLES],
         steps: 0,
-        noted,
+        noted: Noted::none(),
     }
 }
 
-fn with_head(p: Parser, b: u8) -> Parser
-    ensures { result ≡ with_head p b }
-{
-    let mut q = p;
-    let head = p.head;
-    q.head = advance(head, b);
-    q
-}
-
-fn with_byte(p: Parser, b: u8) -> Parser
-    ensures { result ≡ with_byte p b }
-{
-    let mut q = p;
-    let line = p.line;
-    q.line = push(line, b);
-    q
-}
-
-fn with_places(p: Parser) -> Parser
-    ensures { result ≡ with_places p }
-{
-    let line = p.line;
-    let mut head = p.head;
-    head.phase = 4;
-    let given = places(line);
-    let next = empty_line();
-    let mut q = p;
-    q.head = head;
-    q.line = next;
-    q.places = given;
-    q
-}
-
-fn with_conclusion(p: Parser) -> Parser
-    ensures { result ≡ with_conclusion p }
-{
-    let mut q = p;
-    let line = p.line;
-    let noted = p.noted;
-    q.noted = note(noted, line);
-    q.line = empty_line();
-    q
-}
-
-fn with_step(p: Parser) -> Parser
-    ensures { result ≡ with_step p }
-{
-    let mut q = p;
-    q.steps = grow(p.steps, PAST_STEPS);
-    q.line = empty_line();
-    q
-}
-
-fn without_feed(p: Parser) -> Parser
-    ensures { result ≡ unended p }
-{
-    let mut line = p.line;
-    line.good = false;
-    let mut q = p;
-    q.line = line;
-    q
-}
-
-// A line that is no conclusion is a step.
-fn add_step(p: Parser, steps: &mut [[u64; WORDS]]) -> Parser
-    ensures { EndsBy after_step p steps.old result steps.new }
-{
-    let line = p.line;
-    let x = word(line, 0);
-    let y = word(line, 1);
-    let z = word(line, 2);
-    let at = p.steps;
-    put_step(steps, at, x, y, z);
-    with_step(p)
-}
-
-fn end_line(p: Parser, steps: &mut [[u64; WORDS]]) -> Parser
-    ensures { EndsBy after_line p steps.old result steps.new }
-{
-    let line = p.line;
-    if formed(line, CONCLUSION, CONCLUSION_DIGITS) {
-        return with_conclusion(p);
+impl Parser {
+    // The 08 line ends.
+    fn assign(&mut self)
+        ensures { self.new ≡ with_places self.old }
+    {
+        self.places = self.line.places();
+        self.line = Buffer::empty();
+        self.head.phase = Phase::Grounds;
     }
-    add_step(p, steps)
-}
 
-fn take(p: Parser, b: u8, text: &mut [u8], steps: &mut [[u64; WORDS]]) -> Parser
-    ensures { Becomes (taken b (memory p text.old steps.old)) result text.new steps.new }
-{
-    let head = p.head;
-    let phase = head.phase;
-    if phase < 3 {
-        let at = head.size;
-        put(text, at, b);
-        return with_head(p, b);
+    // A line that is no conclusion is a step.
+    fn add_step(&mut self, steps: &mut [[u64; WORDS]])
+        ensures { EndsBy after_step self.old steps.old self.new steps.new }
+    {
+        let x = self.line.word(0);
+        let y = self.line.word(1);
+        let z = self.line.word(2);
+        put_step(steps, self.steps, x, y, z);
+        self.steps = grow(self.steps, PAST_STEPS);
+        self.line = Buffer::empty();
     }
-    if b != 10 {
-        return with_byte(p, b);
-    }
-    if phase == 3 {
-        return with_places(p);
-    }
-    end_line(p, steps)
-}
 
-// Takes byte k of a piece.
-fn take_at(p: Parser, piece: &[u8], k: usize, text: &mut [u8], steps: &mut [[u64; WORDS]]) -> Parser
-    requires { k < length piece.now }
-    ensures { Becomes (taken (get_or piece.now k 0) (memory p text.old steps.old)) result text.new steps.new }
-{
-    take(p, piece[k], text, steps)
+    // A later line ends.
+    fn end_line(&mut self, steps: &mut [[u64; WORDS]])
+        ensures { EndsBy after_line self.old steps.old self.new steps.new }
+    {
+        if self.line.formed(CONCLUSION, CONCLUSION_DIGITS) {
+            self.noted = self.noted.note(&self.line);
+            self.line = Buffer::empty();
+        } else {
+            self.add_step(steps);
+        }
+    }
+
+    fn take(&mut self, b: u8, text: &mut [u8], steps: &mut [[u64; WORDS]])
+        ensures { Becomes (taken b (memory self.old text.old steps.old)) self.new text.new steps.new }
+    {
+        match (self.head.phase, b) {
+            (Phase::Assignment, b'\n') => self.assign(),
+            (Phase::Grounds | Phase::Beyond, b'\n') => self.end_line(steps),
+            (Phase::Assignment | Phase::Grounds | Phase::Beyond, _) => self.line.push(b),
+            _ => {
+                put(text, self.head.size, b);
+                self.head = self.head.after(b);
+            }
+        }
+    }
 }
 
 // Takes one piece more.
@@ -203,10 +146,8 @@ pub fn feed(p: Parser, piece: &[u8], text: &mut [u8], steps: &mut [[u64; WORDS]]
     ensures feeds { Becomes (fed piece.now (memory p text.old steps.old)) result text.new steps.new }
 {
     let mut q = p;
-    let mut k: usize = 0;
-    while k < piece.len() {
-        q = take_at(q, piece, k, text, steps);
-        k += 1;
+    for b in piece {
+        q.take(*b, text, steps);
     }
     q
 }
@@ -215,14 +156,10 @@ pub fn feed(p: Parser, piece: &[u8], text: &mut [u8], steps: &mut [[u64; WORDS]]
 pub fn finish(p: Parser, steps: &mut [[u64; WORDS]]) -> Parser
     ensures finishes { EndsBy finished p steps.old result steps.new }
 {
-    let head = p.head;
-    let line = p.line;
-    if head.phase != 4 {
-        return p;
+    let mut q = p;
+    if matches!(q.head.phase, Phase::Grounds) && q.line.size != 0 {
+        q.line.good = false;
+        q.add_step(steps);
     }
-    if line.size == 0 {
-        return p;
-    }
-    let q = without_feed(p);
-    add_step(q, steps)
+    q
 }

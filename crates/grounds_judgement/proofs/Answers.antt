@@ -6,6 +6,7 @@
 use mathlib.Core.List.{List}
 use mathlib.Core.Path.{◌≡◌, refl, ap, sym, ◌∙◌, subst}
 use Prim.Native.Nat.{ℕ, suc}
+use Rattle.std.specs.Prelude.{Ok, Err}
 use native.Mathlib.Omega.{arith}
 use Rattle.meaning.specs.Context.{Context}
 use Rattle.meaning.specs.Rules.{Clause, found, nothing}
@@ -21,9 +22,7 @@ use Rattle.grounds_verdict.proofs.Answers.{verdict-answer}
 use Rattle.replies.specs.Told.{meant}
 use Rattle.grounds_verdict.specs.declared.Conclusions.{Conclusions}
 use Rattle.grounds_judgement.specs.Judgements.{Judgement, judged, refused, Weighed, empty, clashes, weighs, Judges, faults, judges, BreachOf}
-use Rattle.grounds_judgement.specs.Claims.{judgement_of, concluded_in, JudgesTo}
-use Rattle.grounds_judgement.specs.declared.Outcome.{Outcome}
-use Rattle.grounds_judgement.specs.declared.Outcome.TheVariants as O
+use Rattle.grounds_judgement.specs.Claims.{Outcome, judgement_of, concluded_in, JudgesTo}
 
 taken-one : (L : Limits) (text : List ℕ) (s t : Read) → read L text ≡ taken s → read L text ≡ taken t → s ≡ t
 taken-one L text s t p q = let e : taken s ≡ taken t = sym p ∙ q in cc
@@ -87,15 +86,15 @@ module _ (a : List ℕ) (steps : List Step) (ds : List Conclusion) where
 -- ---- one answer
 
 outcome-one : (r q : Outcome) → judgement_of r ≡ judgement_of q → r ≡ q
-outcome-one (O.Judged x) (O.Judged y) e = ap O.Judged (verdict-answer x y cc)
-outcome-one (O.Judged x) (O.Refused y) e = absurd (let z : ◌≡◌ {A = ℕ} 0 1 = cc in omega arith)
-outcome-one (O.Refused x) (O.Judged y) e = absurd (let z : ◌≡◌ {A = ℕ} 0 1 = cc in omega arith)
-outcome-one (O.Refused x) (O.Refused y) e =
+outcome-one (Ok x) (Ok y) e = ap Ok (verdict-answer x y cc)
+outcome-one (Ok x) (Err y) e = absurd (let z : ◌≡◌ {A = ℕ} 0 1 = cc in omega arith)
+outcome-one (Err x) (Ok y) e = absurd (let z : ◌≡◌ {A = ℕ} 0 1 = cc in omega arith)
+outcome-one (Err x) (Err y) e =
     let z : meant x ≡ meant y = cc in
     let n : x.number ≡ y.number = ap (λ (w : Refusal). w.number) z in
     let l : x.line ≡ y.line = ap (λ (w : Refusal). w.place) z in
     let o : x.offset ≡ y.offset = ap (λ (w : Refusal). w.offset) z in
-    ap O.Refused (rw (n, l, o))
+    ap Err (rw (n, l, o))
 
 pub judges-one : (text a : List ℕ) (steps : List (List ℕ)) (d : Conclusions) (r q : Outcome) → JudgesTo text a steps d r
     → JudgesTo text a steps d q

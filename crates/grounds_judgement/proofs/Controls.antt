@@ -8,6 +8,7 @@
 use mathlib.Core.List.{List, [], ◌∷◌}
 use mathlib.Core.Path.{◌≡◌, refl, sym, ◌∙◌, subst}
 use Prim.Native.Nat.{ℕ, ◌+◌, ◌*◌, ◌≤◌}
+use Rattle.std.specs.Prelude.{Result, Ok, Err}
 use native.Mathlib.Omega.{arith}
 use lib.ListN.{length, replicate}
 use Rattle.meaning.specs.Context.{Row, Context, Statement, same, differ, equations_of, differences_of}
@@ -25,14 +26,12 @@ use Rattle.grounds_steps.specs.Steps.{words_of, steps_of}
 use Rattle.meaning.proofs.Sheet.{sheet-shown}
 use Rattle.meaning.proofs.Taken.{read-formed}
 use Rattle.meaning.proofs.Verdicts.{verdict_by-verified}
-use Rattle.grounds_verdict.specs.declared.Answer.{Answer}
-use Rattle.grounds_verdict.specs.declared.Answer.TheVariants.{Accepted, Unassigned, Bad, Unconcluded}
 use Rattle.grounds_verdict.specs.declared.Conclusions.{Conclusions}
+use Rattle.grounds_verdict.specs.declared.Fault.{Fault}
+use Rattle.grounds_verdict.specs.declared.Fault.TheVariants.{Unassigned, Bad, Unconcluded}
 use Rattle.grounds_verdict.specs.Claims.{verdict_of}
 use Rattle.grounds_judgement.specs.Judgements.{judged, weighs, Judges, judges}
-use Rattle.grounds_judgement.specs.Claims.{concluded_in, JudgesTo}
-use Rattle.grounds_judgement.specs.declared.Outcome.{Outcome}
-use Rattle.grounds_judgement.specs.declared.Outcome.TheVariants.{Judged}
+use Rattle.grounds_judgement.specs.Claims.{Outcome, concluded_in, JudgesTo}
 use Rattle.grounds_judgement.proofs.Answers.{judges-one}
 
 abbrev pub Checker : Type 0
@@ -132,10 +131,10 @@ abbrev verdict : List ℕ → List (List ℕ) → Conclusions → Verdict
 verdict a steps d = verdict_on a (steps_of steps) (concluded_in d)
 
 computed :
-    (verdict places grounds ends ≡ verdict_of Accepted)
-    × (verdict (replicate 4 255) grounds ends ≡ verdict_of (Unassigned 0))
-    × (verdict places no_step ends ≡ verdict_of (Bad 1))
-    × (verdict places grounds no_ends ≡ verdict_of (Unconcluded 1))
+    (verdict places grounds ends ≡ verdict_of (Ok tt))
+    × (verdict (replicate 4 255) grounds ends ≡ verdict_of (Err (Unassigned 0)))
+    × (verdict places no_step ends ≡ verdict_of (Err (Bad 1)))
+    × (verdict places grounds no_ends ≡ verdict_of (Err (Unconcluded 1)))
 unfolding steps_of step_from conclusion_from conclusions_from entry_of entries key_of keys_of same_key numbered alike number_like numbers_to numbers_of number_below side_of counts is_unequal owner_by sides_by used_by cited_by paired_by met_by each_by congruent_by adds_by added_by derives_by follows_by differs_by_steps concludes_by first_false assigned_by choose concluded_by verdict_by same_list conclusion_for variables equations_of differences_of
 computed = (refl, refl, refl, refl)
 
@@ -146,42 +145,42 @@ lullaby-judged a steps ds v e =
     (weighs (λ z. let o : ◌≡◌ {A = ℕ} 0 1 = cc in omega arith) consistent v
     (rw e at (verdict_by-verified said.ledger.context said.clause a steps ds (read-formed narrow lullaby said reads))))
 
-judged-so : (a : List ℕ) (steps : List (List ℕ)) (d : Conclusions) (v : Answer) → verdict a steps d ≡ verdict_of v
-    → JudgesTo lullaby a steps d (Judged v)
+judged-so : (a : List ℕ) (steps : List (List ℕ)) (d : Conclusions) (v : Result (Unit {0}) Fault) → verdict a steps d ≡ verdict_of v
+    → JudgesTo lullaby a steps d (Ok v)
 judged-so a steps d v e = record { judges = lullaby-judged a (steps_of steps) (concluded_in d) (verdict_of v) e }
 
 module _ (f : Checker) (right : Right f) where
-  answers : (a : List ℕ) (steps : List (List ℕ)) (d : Conclusions) (v : Answer) → verdict a steps d ≡ verdict_of v → f lullaby a steps d ≡ Judged v
+  answers : (a : List ℕ) (steps : List (List ℕ)) (d : Conclusions) (v : Result (Unit {0}) Fault) → verdict a steps d ≡ verdict_of v → f lullaby a steps d ≡ Ok v
   answers a steps d v e =
-      judges-one lullaby a steps d (f lullaby a steps d) (Judged v) (right lullaby a steps d) (judged-so a steps d v e)
+      judges-one lullaby a steps d (f lullaby a steps d) (Ok v) (right lullaby a steps d) (judged-so a steps d v e)
 
   -- the grounds as they are; without an assignment; a step of kind 00; without conclusions
-  pub some-accepted : f lullaby places grounds ends ≡ Judged Accepted
-  some-accepted = answers places grounds ends Accepted computed.0
+  pub some-accepted : f lullaby places grounds ends ≡ Ok (Ok tt)
+  some-accepted = answers places grounds ends (Ok tt) computed.0
 
-  pub some-unassigned : f lullaby (replicate 4 255) grounds ends ≡ Judged (Unassigned 0)
-  some-unassigned = answers (replicate 4 255) grounds ends (Unassigned 0) computed.1
+  pub some-unassigned : f lullaby (replicate 4 255) grounds ends ≡ Ok (Err (Unassigned 0))
+  some-unassigned = answers (replicate 4 255) grounds ends (Err (Unassigned 0)) computed.1
 
-  pub some-bad : f lullaby places no_step ends ≡ Judged (Bad 1)
-  some-bad = answers places no_step ends (Bad 1) computed.2
+  pub some-bad : f lullaby places no_step ends ≡ Ok (Err (Bad 1))
+  some-bad = answers places no_step ends (Err (Bad 1)) computed.2
 
-  pub some-open : f lullaby places grounds no_ends ≡ Judged (Unconcluded 1)
-  some-open = answers places grounds no_ends (Unconcluded 1) computed.3
+  pub some-open : f lullaby places grounds no_ends ≡ Ok (Err (Unconcluded 1))
+  some-open = answers places grounds no_ends (Err (Unconcluded 1)) computed.3
 
   -- accepts nothing
-  pub no-rejecting : ((a : List ℕ) (steps : List (List ℕ)) (d : Conclusions) → f lullaby a steps d ≡ Judged Accepted → ⊥) → ⊥
+  pub no-rejecting : ((a : List ℕ) (steps : List (List ℕ)) (d : Conclusions) → f lullaby a steps d ≡ Ok (Ok tt) → ⊥) → ⊥
   no-rejecting h = h places grounds ends some-accepted
 
   -- accepts whatever stands behind an assignment
-  pub no-accepting : ((steps : List (List ℕ)) (d : Conclusions) → f lullaby places steps d ≡ Judged Accepted) → ⊥
+  pub no-accepting : ((steps : List (List ℕ)) (d : Conclusions) → f lullaby places steps d ≡ Ok (Ok tt)) → ⊥
   no-accepting h =
-      let e : Judged Accepted ≡ Judged (Bad 1) = sym (h no_step ends) ∙ some-bad in let z : ◌≡◌ {A = ℕ} 0 1 = cc in omega arith
+      let e : Ok (Ok tt) ≡ Ok (Err (Bad 1)) = sym (h no_step ends) ∙ some-bad in let z : ◌≡◌ {A = ℕ} 0 1 = cc in omega arith
 
   -- accepts steps that hold together, whatever is concluded
-  pub no-unconcerned : ((d : Conclusions) → f lullaby places grounds d ≡ Judged Accepted) → ⊥
-  no-unconcerned h = let e : Judged Accepted ≡ Judged (Unconcluded 1) = sym (h no_ends) ∙ some-open in let z : ◌≡◌ {A = ℕ} 0 1 = cc in omega arith
+  pub no-unconcerned : ((d : Conclusions) → f lullaby places grounds d ≡ Ok (Ok tt)) → ⊥
+  no-unconcerned h = let e : Ok (Ok tt) ≡ Ok (Err (Unconcluded 1)) = sym (h no_ends) ∙ some-open in let z : ◌≡◌ {A = ℕ} 0 1 = cc in omega arith
 
   -- names a variable whatever the assignment
-  pub no-unassigning : ((a : List ℕ) → (v : ℕ) × (f lullaby a grounds ends ≡ Judged (Unassigned v))) → ⊥
+  pub no-unassigning : ((a : List ℕ) → (v : ℕ) × (f lullaby a grounds ends ≡ Ok (Err (Unassigned v)))) → ⊥
   no-unassigning h =
-      let e : Judged (Unassigned (h places).0) ≡ Judged Accepted = sym (h places).1 ∙ some-accepted in let z : ◌≡◌ {A = ℕ} 0 1 = cc in omega arith
+      let e : Ok (Err (Unassigned (h places).0)) ≡ Ok (Ok tt) = sym (h places).1 ∙ some-accepted in let z : ◌≡◌ {A = ℕ} 0 1 = cc in omega arith

@@ -55,14 +55,6 @@ bridge cells table s x y =
     let over : Written = linked back.cells back.number s (label_in table x) x y in
     linked over.cells over.number (why_in table y) (label_in table x) y (label_in table y)
 
--- 1 for a label, and 0 for any other
-unfoldable pub hit_of : ℕ → ℕ → ℕ
-hit_of x p = elim (eqb x p) [ true ↦ 1 | false ↦ 0 ]
-
-pub record Hit (x p r : ℕ) : Type 0 where
-  pub value : r ≡ hit_of x p
-  pub most : r ≤ 1
-
 -- among the first n entries
 unfoldable pub size_in : List ℕ → ℕ → ℕ → ℕ
 size_in table p zero = 0

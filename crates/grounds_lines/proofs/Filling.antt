@@ -7,7 +7,9 @@
 -- Assumes nothing.
 use mathlib.Core.Bool.{Bool, true, false}
 use mathlib.Core.List.{List, ◌++◌, append-nil, append_assoc}
-use mathlib.Core.Path.{◌≡◌, refl, sym, ap, ap₂, ◌∙◌}
+use mathlib.Core.Path.{◌≡◌, refl, sym, ap, ap₂, ◌∙◌, subst}
+use mathlib.Core.Logic.{◌⊎◌, inl, inr}
+use Rattle.std.specs.Prelude.{max}
 use Prim.Native.Nat.{ℕ, zero, suc, ◌+◌, ◌-◌, ◌≤◌, ◌<◌}
 use native.Mathlib.Nat.{add-zero}
 use native.Mathlib.Numerals.{add-one}
@@ -66,6 +68,7 @@ module _ (steps : List (List ℕ)) (n : ℕ) (d : Conclusions) (from end : ℕ) 
   pub record Filling (used at : ℕ) (after : List ℕ) : Type 0 where
     pub count : ℕ
     pub place : at ≡ from + count
+    pub reach : (at ≤ end) ⊎ (at ≡ from)
     pub size : used ≡ length (run piece from count)
     pub within : used ≤ length lent
     pub long : length after ≡ length lent
@@ -78,6 +81,7 @@ module _ (steps : List (List ℕ)) (n : ℕ) (d : Conclusions) (from end : ℕ) 
       record {
         count = 0;
         place = omega arith;
+        reach = inr refl;
         size = refl;
         within = omega arith;
         long = refl;
@@ -92,6 +96,7 @@ module _ (steps : List (List ℕ)) (n : ℕ) (d : Conclusions) (from end : ℕ) 
         record {
           count = suc f.count;
           place = omega (arith, f.place);
+          reach = inl (omega arith);
           size = omega (arith, f.size, ap length one, length-append (run piece from f.count) (piece at), long);
           within = omega (arith, f.within, f.long);
           long = ap length e ∙ length-sets after used (piece at) ∙ f.long;
@@ -142,10 +147,20 @@ module _ (steps : List (List ℕ)) (n : ℕ) (d : Conclusions) (from end : ℕ) 
     filling-wait len s short =
         ends (fitting-short piece (length lent - used) at (end - at) (omega (arith, length-item steps n d at, f.long)))
 
-    pub filling-done : end ≤ at → (many literals : ℕ) → n ≡ step_count steps many → end ≡ item_count steps many literals
-        → Fills steps many d literals from lent (record { used = used; next = at }) after
+    at-end : end ≤ at → at ≡ max from end
+    at-end h = go f.reach
+      where
+        go : (at ≤ end) ⊎ (at ≡ from) → at ≡ max from end
+        go (inl l) = omega (arith, f.place)
+        go (inr e) = omega arith
+
+    pub filling-done : end ≤ at → (next : ℕ) → next ≡ max from end → (many literals : ℕ) → n ≡ step_count steps many → end ≡ item_count steps many literals
+        → Fills steps many d literals from lent (record { used = used; next = next }) after
     unfolding fitting
-    filling-done h = let e : end - at ≡ 0 = omega arith in ends (ap (fitting piece (length lent - used) at) e)
+    filling-done h next en many literals e f' =
+        let z : end - at ≡ 0 = omega arith in
+        subst (λ (k : ℕ). Fills steps many d literals from lent (record { used = used; next = k }) after) (at-end h ∙ sym en)
+        (ends (ap (fitting piece (length lent - used) at) z) many literals e f')
 
     pub filling-room : at < end → (len : ℕ) → len ≡ size_at n at → len ≤ length after - used → (many literals : ℕ)
         → n ≡ step_count steps many → end ≡ item_count steps many literals → ItemRoom steps n at after used

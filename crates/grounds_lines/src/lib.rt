@@ -4,7 +4,7 @@
 mod lines;
 pub mod opening;
 
-ghost use Rattle.std.specs.Prelude.{◌≡◌, min};
+ghost use Rattle.std.specs.Prelude.{◌≡◌};
 ghost use Rattle.std.proofs.lemmas.List.Edits.{sets};
 ghost use Rattle.grounds_lines.specs.Lines.{item_frame, size_at};
 ghost use Rattle.grounds_lines.specs.Filling.{step_count, item_count, ItemRoom, Fills};
@@ -21,24 +21,18 @@ pub struct Filled {
     pub next: usize,
 }
 
-fn least(a: usize, b: usize) -> usize
-    ensures { result ≡ min a b }
-{
-    if a < b { a } else { b }
-}
-
 // How many steps there are to write: no more than the run has places.
 fn held(steps: &[[u64; WORDS]], many: usize) -> usize
     ensures { result ≡ step_count steps.now many }
 {
-    least(many, steps.len())
+    many.min(steps.len())
 }
 
 // How many lines there are: the steps, and a conclusion for each literal, of which there are 16 at most.
 pub fn items(steps: &[[u64; WORDS]], many: usize, literals: usize) -> usize
     ensures counts { result ≡ item_count steps.now many literals }
 {
-    held(steps, many) + least(literals, LITERALS)
+    held(steps, many) + literals.min(LITERALS)
 }
 
 // How long the line of item p is, where the first n items are steps.
@@ -61,9 +55,9 @@ fn put_item(steps: &[[u64; WORDS]], n: usize, d: Conclusions, p: usize, lent: &m
             lent,
             at,
         );
-        return;
+    } else {
+        put_end(d, p - n, lent, at);
     }
-    put_end(d, p - n, lent, at);
 }
 
 // Writes whole lines from an item on, as many as there is room for.
@@ -80,15 +74,16 @@ pub fn fill(
     let n = held(steps, many);
     let end = items(steps, many, literals);
     let mut used = 0;
-    let mut at = from;
-    while at < end {
+    for at in from..end {
         let len = size(n, at);
         if space.len() - used < len {
             return Filled { used, next: at };
         }
         put_item(steps, n, d, at, space, used);
         used += len;
-        at += 1;
     }
-    Filled { used, next: at }
+    Filled {
+        used,
+        next: from.max(end),
+    }
 }

@@ -5,40 +5,41 @@ ghost use Rattle.runs.specs.Limits.{most_literals};
 ghost use Rattle.meaning.specs.Writing.{hex, frame};
 ghost use Rattle.grounds_lines.specs.Lines.{octets, step_frame, cited_bytes, end_frame, end_of};
 
-use casts::{u64_of_u16, u64_of_u32};
 use grounds_verdict::Conclusions;
 use reply_lines::hex::put_byte;
 
-// The n low bytes of a number, the high one first; the low one is stored first.
-fn put_number(x: u64, n: usize, lent: &mut [u8], at: usize)
-    requires { at + n * 2 ≤ length lent.old }
-    ensures { lent.new ≡ sets lent.old at (hex (octets n x)) }
+// So many low bytes of a number.
+#[derive(Clone, Copy)]
+struct Low(usize, u64);
+
+// The low bytes of a number, the high one first; the low one is stored first.
+fn put_number(x: Low, lent: &mut [u8], at: usize)
+    requires { at + x.0 * 2 ≤ length lent.old }
+    ensures { lent.new ≡ sets lent.old at (hex (octets x.0 x.1)) }
 {
-    let mut left = n;
-    let mut rest = x;
-    while left > 0 {
-        left -= 1;
-        put_byte((rest % 256) as u8, lent, at + left * 2);
-        rest = rest / 256;
+    let Low(n, mut rest) = x;
+    for k in (0..n).rev() {
+        put_byte((rest % 256) as u8, lent, at + k * 2);
+        rest /= 256;
     }
 }
 
-// The n low bytes of a number, and behind them the m low bytes of another.
-fn put_two(x: u64, n: usize, y: u64, m: usize, lent: &mut [u8], at: usize)
-    requires { at + (n + m) * 2 ≤ length lent.old }
-    ensures { lent.new ≡ sets lent.old at (hex (octets n x ++ octets m y)) }
+// The low bytes of two numbers, one behind the other.
+fn put_two(x: Low, y: Low, lent: &mut [u8], at: usize)
+    requires { at + (x.0 + y.0) * 2 ≤ length lent.old }
+    ensures { lent.new ≡ sets lent.old at (hex (octets x.0 x.1 ++ octets y.0 y.1)) }
 {
-    put_number(x, n, lent, at);
-    put_number(y, m, lent, at + n * 2);
+    put_number(x, lent, at);
+    put_number(y, lent, at + x.0 * 2);
 }
 
 // The same at the end of a line.
-fn put_last(x: u64, n: usize, y: u64, m: usize, lent: &mut [u8], at: usize)
-    requires { at + (n + m) * 2 < length lent.old }
-    ensures { lent.new ≡ sets lent.old at (frame (octets n x ++ octets m y)) }
+fn put_last(x: Low, y: Low, lent: &mut [u8], at: usize)
+    requires { at + (x.0 + y.0) * 2 < length lent.old }
+    ensures { lent.new ≡ sets lent.old at (frame (octets x.0 x.1 ++ octets y.0 y.1)) }
 {
-    put_two(x, n, y, m, lent, at);
-    lent[at + (n + m) * 2] = 10;
+    put_two(x, y, lent, at);
+    lent[at + (x.0 + y.0) * 2] = b'\n';
 }
 
 // A step by its three words.
@@ -46,8 +47,8 @@ pub(crate) fn put_step(x: u64, y: u64, z: u64, lent: &mut [u8], at: usize)
     requires { at + 51 ≤ length lent.old }
     ensures { lent.new ≡ sets lent.old at (step_frame x y z) }
 {
-    put_two(176, 1, x, 8, lent, at);
-    put_last(y, 8, z, 8, lent, at + 18);
+    put_two(Low(1, 176), Low(8, x), lent, at);
+    put_last(Low(8, y), Low(8, z), lent, at + 18);
 }
 
 // What stands behind the literal on a conclusion's line; the places that are not read hold zeros.
@@ -55,8 +56,8 @@ fn put_cited(first: u64, difference: u64, lent: &mut [u8], at: usize)
     requires { at + 23 ≤ length lent.old }
     ensures { lent.new ≡ sets lent.old at (frame (cited_bytes first difference)) }
 {
-    put_two(first, 4, 0, 4, lent, at);
-    put_last(difference, 2, 0, 1, lent, at + 16);
+    put_two(Low(4, first), Low(4, 0), lent, at);
+    put_last(Low(2, difference), Low(1, 0), lent, at + 16);
 }
 
 // A conclusion by its fields.
@@ -64,7 +65,7 @@ fn put_fields(literal: u64, first: u64, difference: u64, lent: &mut [u8], at: us
     requires { at + 27 ≤ length lent.old }
     ensures { lent.new ≡ sets lent.old at (end_frame (record { literal = literal; first = first; difference = difference })) }
 {
-    put_two(177, 1, literal, 1, lent, at);
+    put_two(Low(1, 177), Low(1, literal), lent, at);
     put_cited(first, difference, lent, at + 4);
 }
 
@@ -74,8 +75,8 @@ pub(crate) fn put_end(d: Conclusions, j: usize, lent: &mut [u8], at: usize)
     requires at_in_bounds { at + 27 ≤ length lent.old }
     ensures { lent.new ≡ sets lent.old at (end_frame (end_of d j)) }
 {
-    let first = u64_of_u32(d.firsts[j]);
-    let difference = u64_of_u16(d.differences[j]);
     let literal = (j + 1) as u64;
+    let first = u64::from(d.firsts[j]);
+    let difference = u64::from(d.differences[j]);
     put_fields(literal, first, difference, lent, at);
 }

@@ -20,24 +20,18 @@ pub fn open(input: &[u8], steps: &mut [[u64; WORDS]]) -> Opened
     ensures opens { Opens input.now steps.old result steps.new }
 {
     if INPUT_LIMIT < input.len() {
-        let line = over_line();
-        let conclusions = writer::no_conclusions();
         return Opened {
-            line,
+            line: over_line(),
             steps: 0,
             literals: 0,
-            conclusions,
+            conclusions: writer::no_conclusions(),
         };
     }
     let r = writer::write(input, steps);
-    let outcome = r.outcome;
-    let places = r.places;
-    let line = reply_line(outcome, places);
-    let conclusions = r.conclusions;
     Opened {
-        line,
+        line: reply_line(r.outcome, r.places),
         steps: r.steps,
         literals: r.literals,
-        conclusions,
+        conclusions: r.conclusions,
     }
 }

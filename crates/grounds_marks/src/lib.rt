@@ -6,7 +6,6 @@ ghost use Rattle.grounds_laws.specs.Limits.{draft_size};
 ghost use Rattle.grounds_laws.specs.Draft.{count_in};
 ghost use Rattle.grounds_batches.specs.Marking.{noted, noted_four, mark_one, marked, marked_for};
 
-use casts::usize_of_u16;
 use grounds_laws::DRAFT;
 
 // Number r is marked, where it is not past a limit.
@@ -14,7 +13,7 @@ fn note(marks: &mut [u16], limit: usize, r: u16)
     requires { limit < length marks.old }
     ensures { marks.new ≡ noted limit r marks.old }
 {
-    let i = usize_of_u16(r);
+    let i = usize::from(r);
     if i <= limit {
         marks[i] = 1;
     }
@@ -54,10 +53,8 @@ fn mark_steps(cells: &[u16], marks: &mut [u16], n: usize)
     requires draft_size_in_bounds { n * draft_size < length cells.now }
     ensures { marks.new ≡ marked cells.now n marks.old }
 {
-    let mut left = n;
-    while left > 0 {
-        left -= 1;
-        mark_one(cells, marks, left);
+    for i in (0..n).rev() {
+        mark_one(cells, marks, i);
     }
 }
 
@@ -67,7 +64,7 @@ pub fn mark(cells: &[u16], marks: &mut [u16], s: u16)
     requires marks_value { marks.old ≡ replicate (count_in cells.now + 1) 0 }
     ensures { marks.new ≡ marked_for cells.now s }
 {
-    let count = usize_of_u16(cells[0]);
+    let count = usize::from(cells[0]);
     note(marks, count, s);
     mark_steps(cells, marks, count);
 }

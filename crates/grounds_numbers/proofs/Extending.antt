@@ -1,5 +1,5 @@
 -- One entry more: its key stands in its places, the keys before it stay, and its number keeps the numbers faithful.
---     entry_row .. entry-made    the key of an entry, by the way that the code takes
+--     entry_row .. clause-made    the key of an entry, by the way that the code takes
 --     filled-next                the table after one entry more
 --     filled-keys, filled-keyed  what a filled table says to those that read it
 --     mine                       what the functions of `table` leave to show
@@ -11,9 +11,9 @@ use mathlib.Core.Logic.{inl, inr}
 use Prim.Native.Nat.{ℕ, suc, ◌+◌, ◌-◌, ◌*◌, ◌≤◌, ◌<◌}
 use native.Mathlib.Numerals.{add-one}
 use native.Mathlib.Omega.{arith}
-use lib.Dec.{ltb}
+use lib.Dec.{ltb, eqb}
 use borrow.Author.Rules.{rules}
-use borrow.Author.Tests.{ltb-true, ltb-false}
+use borrow.Author.Tests.{ltb-true, ltb-false, eqb-true, eqb-false}
 use lib.ListN.{length, get_or, set, take, drop, length-append, length-drop, length-set, get_or-append, get_or-map}
 use lib.Seq.{length-take-le, get_or-take, get_or-append-add, get_or-set_same, get_or-set_other, ext_get_or}
 use Rattle.meaning.specs.Context.{Row, row₀, row_at}
@@ -25,9 +25,8 @@ use Rattle.meaning.proofs.Lists.{below_wider}
 use Rattle.meaning.proofs.Entries.{length-map, length-entries, entry-front, entry-back, entries-ordered, variable-counted}
 use Rattle.meaning.proofs.Faithful.{Outcome, faithful-next}
 use Rattle.runs.specs.Limits.{most_variables, row_size, arg_places}
-use Rattle.runs.specs.Runs.{put, row_count, count_in, row_in, rows_of, pattern_count, pattern_kind_in, head_in, pattern_count_in, pattern_in, patterns_of}
+use Rattle.runs.specs.Runs.{put, row_count, count_in, row_in, rows_of, pattern_count, pattern_kind_in, head_in, pattern_in, patterns_of}
 use Rattle.runs.proofs.Saying.{length-rows, length-patterns, rows-at, patterns-at, pattern-variable, pattern-symbol}
-use Rattle.grounds_numbers.specs.Limits.{most_numbers}
 use Rattle.grounds_numbers.specs.Keys.{Holds, places_in, KeyAt, Copied, pattern_row, Keyed, Like, like-found, like-none, Numbered}
 use Rattle.grounds_numbers.specs.Entries.{entries_of, Fillable, Room, Filled}
 use Rattle.grounds_numbers.proofs.Keying.{places-at, places-long}
@@ -141,65 +140,10 @@ module _ (rows patterns a : List ℕ) (w : Fillable rows patterns a) where
       (omega (arith, c.0, w.four), c.1)
 
   module _ (keys ns : List ℕ) where
-    -- ---- the key of pattern row p
-
-    module _ (p : ℕ) (inside : p < pattern_count patterns) (f : Filled (entries_of rows a patterns) keys ns (row_count rows + p)) where
-      pub clause-offset : (n : ℕ) → n ≡ row_count rows → n ≤ length ns
-      clause-offset n e = omega (arith, f.numbers-long, all-long)
-
-      module _ (kind : ℕ) (ek : kind ≡ pattern_kind_in patterns p) where
-        pub clause-head : kind ≡ 4 → head_in patterns p < most_variables
-        clause-head e = (variable-chosen p inside (sym ek ∙ e)).0
-
-        pub clause-few : (kind ≡ 4 → ⊥) → pattern_count_in patterns p ≤ arg_places
-        clause-few e = w.patterns-few p inside (λ q. e (ek ∙ q))
-
-        module _ (e : kind ≡ 4) (x : ℕ) (ex : x ≡ get_or a (head_in patterns p) 0) where
-          chosen : x < row_count rows
-          chosen = omega (arith, (variable-chosen p inside (sym ek ∙ e)).1)
-
-          pub clause-row : x < row_count keys
-          clause-row = omega (arith, chosen, f.keys-long, all-long)
-
-          held : KeyAt keys x (key_of ns (row_at all x))
-          held = f.keyed x (omega (arith, chosen))
-
-          pub clause-row-few : count_in keys x ≤ arg_places
-          clause-row-few = held.few
-
-          same_row : row_at all x ≡ row_at all (row_count rows + p)
-          unfolding entry_of
-          same_row =
-              all_row x chosen
-              ∙ sym (all-pattern p inside
-              ∙ ap (entry_of (rows_of rows) a) (pattern-variable patterns p (sym ek ∙ e))
-              ∙ ap (row_at (rows_of rows)) (sym ex)
-              ∙ rows-at rows x chosen)
-
-          pub clause-held : (s c : ℕ) (l : List ℕ) → Copied keys x s c l → Holds (key_of ns (row_at (entries_of rows a patterns) (row_count rows + p))) s c l
-          clause-held s c l k =
-              holds_as (ap (key_of ns) same_row) (holds_same (sym k.symbols) (sym k.counts) (sym k.all) held)
-
-        pub clause-made : (n s c : ℕ) (l : List ℕ) → n ≡ row_count rows → (kind ≡ 4 → ⊥) → Holds (key_of ns (pattern_row n patterns p)) s c l
-            → Holds (key_of ns (row_at (entries_of rows a patterns) (row_count rows + p))) s c l
-        unfolding entry_of
-        clause-made n s c l en e k =
-            holds_as
-            (ap (key_of ns)
-            (ap (λ (x : ℕ). pattern_row x patterns p) (en ∙ sym (length-rows rows))
-            ∙ sym (all-pattern p inside ∙ ap (entry_of (rows_of rows) a) (pattern-symbol patterns p (λ q. e (ek ∙ q))))))
-            k
-
     -- ---- the key of entry e
 
     module _ (e : ℕ) (f : Filled (entries_of rows a patterns) keys ns e) (inside : e < row_count rows + pattern_count patterns) where
       module _ (n : ℕ) (en : n ≡ row_count rows) (early : e < n) where
-        pub entry_first : e < row_count rows
-        entry_first = omega arith
-
-        pub entry-few : count_in rows e ≤ arg_places
-        entry-few = w.rows_few e (omega arith)
-
         pub entry_row : (s c : ℕ) (l : List ℕ) → Holds (key_of ns (row_in rows e)) s c l → Holds (key_of ns (row_at (entries_of rows a patterns) e)) s c l
         entry_row s c l k = holds_as (ap (key_of ns) (sym (all_row e (omega arith)))) k
 
@@ -207,20 +151,66 @@ module _ (rows patterns a : List ℕ) (w : Fillable rows patterns a) where
         place : row_count rows + (e - n) ≡ e
         place = omega arith
 
-        pub entry-filled : Filled (entries_of rows a patterns) keys ns (row_count rows + (e - n))
-        entry-filled = rw place f
+        pub clause-inside : e - n < pattern_count patterns
+        clause-inside = omega arith
 
-        pub entry-inside : e - n < pattern_count patterns
-        entry-inside = omega arith
+        pub clause-offset : n ≤ length ns
+        clause-offset = omega (arith, f.numbers-long, all-long)
 
-        pub entry-clause : (s c : ℕ) (l : List ℕ) → Holds (key_of ns (row_at (entries_of rows a patterns) (row_count rows + (e - n)))) s c l
-            → Holds (key_of ns (row_at (entries_of rows a patterns) e)) s c l
-        entry-clause s c l k = rw place at k
+        entry-at : row_at all e ≡ entry_of (rows_of rows) a (pattern_in patterns (e - n))
+        entry-at = ap (row_at all) (sym place) ∙ all-pattern (e - n) clause-inside
+
+        module _ (d : Bool) (ed : d ≡ eqb (pattern_kind_in patterns (e - n)) 4) where
+          symbol : d ≡ false → pattern_kind_in patterns (e - n) ≡ 4 → ⊥
+          symbol q = eqb-false (pattern_kind_in patterns (e - n)) 4 (sym ed ∙ q)
+
+          module _ (is : d ≡ true) (h v : ℕ) (eh : h ≡ head_in patterns (e - n)) (ev : v ≡ h) where
+            kind : pattern_kind_in patterns (e - n) ≡ 4
+            kind = eqb-true (pattern_kind_in patterns (e - n)) 4 (sym ed ∙ is)
+
+            pub clause-head : v < most_variables
+            clause-head = omega (arith, (variable-chosen (e - n) clause-inside kind).0)
+
+            module _ (x : ℕ) (ex : x ≡ get_or a v 0) where
+              named : x ≡ get_or a (head_in patterns (e - n)) 0
+              named = ex ∙ ap (λ (z : ℕ). get_or a z 0) (ev ∙ eh)
+
+              chosen : x < row_count rows
+              chosen = omega (arith, named, (variable-chosen (e - n) clause-inside kind).1)
+
+              pub clause-row : x < row_count keys
+              clause-row = omega (arith, chosen, f.keys-long, all-long)
+
+              held : KeyAt keys x (key_of ns (row_at all x))
+              held = f.keyed x (omega (arith, chosen))
+
+              pub clause-row-few : count_in keys x ≤ arg_places
+              clause-row-few = held.few
+
+              same_row : row_at all x ≡ row_at all e
+              unfolding entry_of
+              same_row =
+                  all_row x chosen
+                  ∙ sym (entry-at
+                  ∙ ap (entry_of (rows_of rows) a) (pattern-variable patterns (e - n) kind)
+                  ∙ ap (row_at (rows_of rows)) (sym named)
+                  ∙ rows-at rows x chosen)
+
+              pub clause-held : (s c : ℕ) (l : List ℕ) → Copied keys x s c l → Holds (key_of ns (row_at (entries_of rows a patterns) e)) s c l
+              clause-held s c l k =
+                  holds_as (ap (key_of ns) same_row) (holds_same (sym k.symbols) (sym k.counts) (sym k.all) held)
+
+          pub clause-made : (s c : ℕ) (l : List ℕ) → d ≡ false → Holds (key_of ns (pattern_row n patterns (e - n))) s c l
+              → Holds (key_of ns (row_at (entries_of rows a patterns) e)) s c l
+          unfolding entry_of
+          clause-made s c l q k =
+              holds_as
+              (ap (key_of ns)
+              (ap (λ (x : ℕ). pattern_row x patterns (e - n)) (en ∙ sym (length-rows rows))
+              ∙ sym (entry-at ∙ ap (entry_of (rows_of rows) a) (pattern-symbol patterns (e - n) (symbol q)))))
+              k
 
       -- ---- one entry more
-
-      pub extend-number : e < most_numbers
-      extend-number = omega (arith, w.few)
 
       pub extend-inside : e < length ns
       extend-inside = omega (arith, f.numbers-long, all-long)
@@ -312,9 +302,6 @@ module _ (rows patterns a : List ℕ) (w : Fillable rows patterns a) where
       }
 
 module _ (given : List Row) (n : ℕ) (keys₀ ns₀ keys ns : List ℕ) (e : ℕ) (f : Filling given n keys₀ ns₀ keys ns e) where
-  pub fill-filled : Filled given keys ns e
-  fill-filled = f.filled
-
   pub fill-next : (keys' ns' : List ℕ) → e < n → Filled given keys' ns' (e + 1) → Filling given n keys₀ ns₀ keys' ns' (e + 1)
   fill-next keys' ns' h g =
       record {
@@ -324,35 +311,15 @@ module _ (given : List Row) (n : ℕ) (keys₀ ns₀ keys ns : List ℕ) (e : �
         filled = g;
       }
 
-  pub fill_done : (a b p q : ℕ) → a ≡ p → b ≡ q → n ≡ a + b → n ≤ e → Filled given keys ns (p + q)
-  fill_done a b p q ea eb en h = let z : e ≡ p + q = omega (arith, f.most) in rw (← z) f.filled
-
-pub chosen-as : (patterns a : List ℕ) (p h v x : ℕ) → h ≡ head_in patterns p → v ≡ h → x ≡ get_or a v 0 → x ≡ get_or a (head_in patterns p) 0
-chosen-as patterns a p h v x eh ev ex = ex ∙ ap (λ (z : ℕ). get_or a z 0) (ev ∙ eh)
-
 pub ruleset mine = (
   rules,
-  chosen-as,
-  clause-head,
-  clause-few,
+  entry_row,
   clause-offset,
+  clause-head,
   clause-row,
   clause-row-few,
   clause-held,
   clause-made,
-  entry_first,
-  entry-few,
-  entry_row,
-  entry-filled,
-  entry-inside,
-  entry-clause,
-  entry-room,
-  extend-keyed,
-  extend-number,
-  extend-inside,
-  extend-done,
   fill_start,
-  fill-filled,
   fill-next,
-  fill_done,
 )

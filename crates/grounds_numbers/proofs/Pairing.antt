@@ -3,7 +3,7 @@
 --     Pairing, pairing-..       the pairs of the statements passed
 --     mine                      what the functions of `pairs` leave to show
 -- Assumes nothing.
-use mathlib.Core.Bool.{Bool, true, false}
+use mathlib.Core.Bool.{Bool, true, false, beq}
 use mathlib.Core.List.{List, [], ◌∷◌, ◌++◌, append-nil}
 use mathlib.Core.Path.{◌≡◌, refl, ap, ap₂, sym, ◌∙◌}
 use mathlib.Core.Logic.{◌⊎◌, inl, inr}
@@ -12,9 +12,9 @@ use native.Mathlib.Numerals.{add-one}
 use native.Mathlib.Omega.{arith}
 use lib.Dec.{eqb}
 use borrow.Author.Rules.{rules}
-use borrow.Author.Tests.{eq-eqb, ne_eqb}
+use borrow.Author.Tests.{both_ways}
 use lib.ListN.{length, get_or, set, take, drop, length-append, length-set}
-use lib.Seq.{get_or-take, get_or-drop, length-take-le, take-append-le, take_at, sets-eq}
+use lib.Seq.{get_or-take, get_or-drop, length-take-le, sets-eq}
 use Rattle.meaning.specs.Context.{Statement, same, differ, equations_of, differences_of}
 use Rattle.meaning.specs.Values.{number_at}
 use Rattle.meaning.specs.Columns.{statement_of}
@@ -24,7 +24,6 @@ use Rattle.runs.proofs.Saying.{each-length, each_at_lem}
 use Rattle.runs.proofs.Growing.{each-grown, put_front}
 use Rattle.grounds_numbers.specs.Limits.{pair_size}
 use Rattle.grounds_numbers.specs.Pairs.{pair_count, pair_in, pairs_in, numbers_of, kept_by, pairs_of, Held}
-use Rattle.grounds_numbers.proofs.Keying.{number_past}
 
 -- ---- a run of pairs
 
@@ -57,52 +56,25 @@ pairs-grown w n x y ew =
 -- ---- a pair written
 
 module _ (run : List ℕ) (k x y : ℕ) (room : k * pair_size + pair_size ≤ length run) where
-  pub pair_put : set (set run (k * pair_size) x) (k * pair_size + 1) y ≡ put pair_size run k (x ∷ y ∷ [])
+  pair_put : set (set run (k * pair_size) x) (k * pair_size + 1) y ≡ put pair_size run k (x ∷ y ∷ [])
   pair_put = rw (add-one (k * pair_size)) (sets-eq (x ∷ y ∷ []) run (k * pair_size) room)
-
-  pub pair-room : k * pair_size + 1 < length (set run (k * pair_size) x)
-  pair-room = omega (arith, length-set run (k * pair_size) x)
 
   put-long : length (put pair_size run k (x ∷ y ∷ [])) ≡ length run
   put-long = ap length (sym pair_put) ∙ length-set (set run (k * pair_size) x) (k * pair_size + 1) y ∙ length-set run (k * pair_size) x
-
-  put-kept : take (k * pair_size) (put pair_size run k (x ∷ y ∷ [])) ≡ take (k * pair_size) run
-  put-kept =
-      let e : length (take (k * pair_size) run) ≡ k * pair_size = length-take-le (k * pair_size) run (omega arith) in
-      take-append-le (k * pair_size) (take (k * pair_size) run ++ (x ∷ y ∷ [])) (drop (k * pair_size + pair_size) run) (omega (arith, length-append (take (k * pair_size) run) (x ∷ y ∷ [])))
-      ∙ take_at (take (k * pair_size) run) (x ∷ y ∷ []) (k * pair_size) e
 
   put-more : pairs_in (take ((k + 1) * pair_size) (put pair_size run k (x ∷ y ∷ []))) ≡ pairs_in (take (k * pair_size) run) ++ ((x, y) ∷ [])
   put-more =
       ap pairs_in (put_front pair_size run k (x ∷ y ∷ []) room refl)
       ∙ pairs-grown (take (k * pair_size) run) k x y (length-take-le (k * pair_size) run (omega arith))
 
-pub stated-put : (ns said run exit : List ℕ) (k s p q x y : ℕ) → p ≡ left_in said s → q ≡ right_in said s → x ≡ number_at ns p → y ≡ number_at ns q
-    → exit ≡ put pair_size run k (x ∷ y ∷ [])
-    → exit ≡ put pair_size run k (numbers_of ns said s)
-stated-put ns said run exit k s p q x y ep eq ex ey e = rw (← ep, ← eq, ← ex, ← ey) e
-
 -- ---- which statements are kept
 
-module _ (kind : ℕ) where
-  pub kept-equation : (b : Bool) → kind ≡ 2 → b ≡ true → 1 ≡ kept_by kind b
-  unfolding kept_by
-  kept-equation b e f = rw (f, eq-eqb kind 2 e, kept_by)
-
-  pub left-equation : (b : Bool) → kind ≡ 2 → b ≡ false → 0 ≡ kept_by kind b
-  unfolding kept_by
-  left-equation b e f = rw (f, eq-eqb kind 2 e, kept_by)
-
-  pub left-difference : (b : Bool) → (kind ≡ 2 → ⊥) → b ≡ true → 0 ≡ kept_by kind b
-  unfolding kept_by
-  left-difference b e f = rw (f, ne_eqb kind 2 e, kept_by)
-
-  pub kept-difference : (b : Bool) → (kind ≡ 2 → ⊥) → b ≡ false → 1 ≡ kept_by kind b
-  unfolding kept_by
-  kept-difference b e f = rw (f, ne_eqb kind 2 e, kept_by)
-
-pub kept_there : (said : List ℕ) (s kind d : ℕ) (b : Bool) → kind ≡ kind_in said s → d ≡ kept_by kind b → d ≡ kept_by (kind_in said s) b
-kept_there said s kind d b e q = q ∙ ap (λ (z : ℕ). kept_by z b) e
+pub kept-as : (d : Bool) (kind : ℕ) (b : Bool) → d ≡ eqb kind 2 → beq d b ≡ kept_by kind b
+unfolding kept_by
+kept-as true kind true e = e
+kept-as false kind true e = e
+kept-as true kind false e = rw (← e)
+kept-as false kind false e = rw (← e)
 
 equations-snoc : (l : List Statement) (s : Statement) → equations_of (l ++ (s ∷ [])) ≡ equations_of l ++ equations_of (s ∷ [])
 unfolding equations_of
@@ -119,8 +91,8 @@ differences-snoc (differ p q ∷ l) s = ap (λ x. (p, q) ∷ x) (differences-sno
 -- one statement more: its pair, or nothing
 abbrev OneMore : Bool → List Statement → ℕ → ℕ → ℕ → Type 0
 OneMore b l kind p q =
-    ((kept_by kind b ≡ 1) × (pairs_of b (l ++ (statement_of kind p q ∷ [])) ≡ pairs_of b l ++ ((p, q) ∷ [])))
-    ⊎ ((kept_by kind b ≡ 0) × (pairs_of b (l ++ (statement_of kind p q ∷ [])) ≡ pairs_of b l))
+    ((kept_by kind b ≡ true) × (pairs_of b (l ++ (statement_of kind p q ∷ [])) ≡ pairs_of b l ++ ((p, q) ∷ [])))
+    ⊎ ((kept_by kind b ≡ false) × (pairs_of b (l ++ (statement_of kind p q ∷ [])) ≡ pairs_of b l))
 
 pairs-more : (b : Bool) (l : List Statement) (kind p q : ℕ) → OneMore b l kind p q
 unfolding kept_by pairs_of statement_of equations_of differences_of
@@ -143,29 +115,25 @@ numbered-snoc ns (d ∷ l) p q = ap (λ x. (number_at ns d.0, number_at ns d.1) 
 -- ---- the loop
 
 -- the pairs kept of the first s statements are the first k of the run
-pub record Pairing (ns said : List ℕ) (b : Bool) (n : ℕ) (run₀ run : List ℕ) (k s : ℕ) : Type 0 where
-  pub count : n ≡ said_count said
-  pub most : s ≤ n
+pub record Pairing (ns said : List ℕ) (b : Bool) (run₀ run : List ℕ) (k s : ℕ) : Type 0 where
+  pub most : s ≤ said_count said
   pub few : k ≤ s
   pub long : length run ≡ length run₀
   pub pairs : pairs_in (take (k * pair_size) run) ≡ numbered ns (pairs_of b (each (statement_in said) s))
 
-module _ (ns said : List ℕ) (b : Bool) (n : ℕ) (run₀ : List ℕ) where
-  pub pairing-start : n ≡ said_count said → Pairing ns said b n run₀ run₀ 0 0
+module _ (ns said : List ℕ) (b : Bool) (run₀ : List ℕ) where
+  pub pairing-start : Pairing ns said b run₀ run₀ 0 0
   unfolding pairs_in numbered each pairs_of differences_of equations_of
-  pairing-start e = record { count = e; most = omega arith; few = omega arith; long = refl; pairs = nothing b }
+  pairing-start = record { most = omega arith; few = omega arith; long = refl; pairs = nothing b }
     where
       nothing : (d : Bool) → [] ≡ numbered ns (pairs_of d [])
       nothing true = refl
       nothing false = refl
 
-  module _ (run : List ℕ) (k s : ℕ) (w : Pairing ns said b n run₀ run k s) (room : said_count said * pair_size ≤ length run₀) where
-    module _ (h : s < n) where
-      pub pairing-inside : s < said_count said
-      pairing-inside = omega (arith, w.count)
-
-      pub pairing-room : k * pair_size + pair_size ≤ length run
-      pairing-room = omega (arith, w.count, w.few, w.long)
+  module _ (run : List ℕ) (k s : ℕ) (w : Pairing ns said b run₀ run k s) where
+    module _ (room : said_count said * pair_size ≤ length run₀) (h : s < said_count said) where
+      pairing-room : k * pair_size + pair_size ≤ length run
+      pairing-room = omega (arith, w.few, w.long)
 
       abbrev x : ℕ
       x = number_at ns (left_in said s)
@@ -176,56 +144,46 @@ module _ (ns said : List ℕ) (b : Bool) (n : ℕ) (run₀ : List ℕ) where
       abbrev passed : List Statement
       passed = each (statement_in said) s
 
-      pub pairing-next : (d : ℕ) (exit : List ℕ) → exit ≡ put pair_size run k (numbers_of ns said s) → d ≡ kept_by (kind_in said s) b → d ≤ 1
-          → Pairing ns said b n run₀ exit (k + d) (s + 1)
-      unfolding each
-      pairing-next d exit ee kept one = rw ee (go (pairs-more b passed (kind_in said s) (left_in said s) (right_in said s)))
-        where
-          go : OneMore b (each (statement_in said) s) (kind_in said s) (left_in said s) (right_in said s)
-              → Pairing ns said b n run₀ (put pair_size run k (numbers_of ns said s)) (k + d) (s + 1)
-          go (inl a) =
-              let e : d ≡ 1 = kept ∙ a.0 in
-              record {
-                count = w.count;
-                most = omega arith;
-                few = omega (arith, w.few);
-                long = put-long run k x y pairing-room ∙ w.long;
-                pairs =
-                    rw (e, add-one s)
-                    (put-more run k x y pairing-room
-                    ∙ ap (λ (l : List (ℕ × ℕ)). l ++ ((x, y) ∷ [])) w.pairs
-                    ∙ sym (ap (numbered ns) a.1 ∙ numbered-snoc ns (pairs_of b passed) (left_in said s) (right_in said s)));
-              }
-          go (inr a) =
-              let e : k + d ≡ k = omega (arith, kept, a.0) in
-              record {
-                count = w.count;
-                most = omega arith;
-                few = omega (arith, w.few);
-                long = put-long run k x y pairing-room ∙ w.long;
-                pairs = rw (e, add-one s) (ap pairs_in (put-kept run k x y pairing-room) ∙ w.pairs ∙ sym (ap (numbered ns) a.1));
-              }
+      module _ (d : Bool) (ed : d ≡ kept_by (kind_in said s) b) where
+        pub pairing-kept : (exit : List ℕ) → exit ≡ put pair_size run k (numbers_of ns said s) → d ≡ true → Pairing ns said b run₀ exit (k + 1) (s + 1)
+        unfolding each
+        pairing-kept exit ee kept = rw ee (go (pairs-more b passed (kind_in said s) (left_in said s) (right_in said s)))
+          where
+            go : OneMore b (each (statement_in said) s) (kind_in said s) (left_in said s) (right_in said s)
+                → Pairing ns said b run₀ (put pair_size run k (numbers_of ns said s)) (k + 1) (s + 1)
+            go (inl a) =
+                record {
+                  most = omega arith;
+                  few = omega (arith, w.few);
+                  long = put-long run k x y pairing-room ∙ w.long;
+                  pairs =
+                      rw (add-one s)
+                      (put-more run k x y pairing-room
+                      ∙ ap (λ (l : List (ℕ × ℕ)). l ++ ((x, y) ∷ [])) w.pairs
+                      ∙ sym (ap (numbered ns) a.1 ∙ numbered-snoc ns (pairs_of b passed) (left_in said s) (right_in said s)));
+                }
+            go (inr a) = absurd (both_ways _ (ed ∙ a.0) kept)
 
-    pub pairing-done : n ≤ s → Held (numbered ns (pairs_of b (statements_of said))) run k
+        pub pairing-left : d ≡ false → Pairing ns said b run₀ run k (s + 1)
+        unfolding each
+        pairing-left left = go (pairs-more b passed (kind_in said s) (left_in said s) (right_in said s))
+          where
+            go : OneMore b (each (statement_in said) s) (kind_in said s) (left_in said s) (right_in said s) → Pairing ns said b run₀ run k (s + 1)
+            go (inl a) = absurd (both_ways _ left (ed ∙ a.0))
+            go (inr a) =
+                record { most = omega arith; few = omega (arith, w.few); long = w.long; pairs = rw (add-one s) (w.pairs ∙ sym (ap (numbered ns) a.1)) }
+
+    pub pairing-done : said_count said * pair_size ≤ length run₀ → said_count said ≤ s → Held (numbered ns (pairs_of b (statements_of said))) run k
     unfolding statements_of
-    pairing-done h =
-        let e : s ≡ said_count said = omega (arith, w.count, w.most) in
-        record { room = omega (arith, w.count, w.few, w.long); hold = w.pairs ∙ ap (λ (z : ℕ). numbered ns (pairs_of b (each (statement_in said) z))) e }
+    pairing-done room h =
+        let e : s ≡ said_count said = omega (arith, w.most) in
+        record { room = omega (arith, w.few, w.long); hold = w.pairs ∙ ap (λ (z : ℕ). numbered ns (pairs_of b (each (statement_in said) z))) e }
 
 pub ruleset mine = (
   rules,
-  number_past,
-  pair_put,
-  pair-room,
-  stated-put,
-  kept_there,
-  kept-equation,
-  left-equation,
-  left-difference,
-  kept-difference,
+  kept-as,
   pairing-start,
-  pairing-inside,
-  pairing-room,
-  pairing-next,
+  pairing-kept,
+  pairing-left,
   pairing-done,
 )

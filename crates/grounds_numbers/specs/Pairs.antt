@@ -2,10 +2,10 @@
 --     pair_count, first_in, second_in    how many a run holds, and the numbers of a pair
 --     pairs_in                         what a run says
 --     numbers_of                       the numbers of a statement's sides
---     kept_by, pairs_of                 whether a statement is asked for, 1 or 0; the pairs of one kind
+--     kept_by, pairs_of                 whether a statement is asked for; the pairs of one kind
 --     Held                            so many pairs stand at a run's start
 -- Assumes nothing.
-use Rattle.std.specs.Prelude.{Bool, true, false, List, [], ◌∷◌, ◌≡◌, ℕ, ◌+◌, ◌*◌, ◌/◌, ◌≤◌, eqb, length, get_or, take}
+use Rattle.std.specs.Prelude.{Bool, true, false, not, List, [], ◌∷◌, ◌≡◌, ℕ, ◌+◌, ◌*◌, ◌/◌, ◌≤◌, eqb, length, get_or, take}
 use Rattle.meaning.specs.Context.{Statement, equations_of, differences_of}
 use Rattle.meaning.specs.Values.{number_at}
 use Rattle.runs.specs.Runs.{each, left_in, right_in}
@@ -29,9 +29,9 @@ pairs_in pairs = each (pair_in pairs) (pair_count pairs)
 abbrev pub numbers_of : List ℕ → List ℕ → ℕ → List ℕ
 numbers_of ns said s = number_at ns (left_in said s) ∷ number_at ns (right_in said s) ∷ []
 
-unfoldable pub kept_by : ℕ → Bool → ℕ
-kept_by kind true = elim (eqb kind 2) [ true ↦ 1 | false ↦ 0 ]
-kept_by kind false = elim (eqb kind 2) [ true ↦ 0 | false ↦ 1 ]
+unfoldable pub kept_by : ℕ → Bool → Bool
+kept_by kind true = eqb kind 2
+kept_by kind false = not (eqb kind 2)
 
 unfoldable pub pairs_of : Bool → List Statement → List (ℕ × ℕ)
 pairs_of true l = equations_of l

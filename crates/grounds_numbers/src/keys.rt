@@ -1,15 +1,14 @@
 // The keys of entries: a symbol over the numbers of the arguments.
 ghost use Rattle.std.specs.Prelude.{◌≡◌, ◌+◌, ◌*◌, ◌≤◌, ◌<◌, length};
-ghost use Rattle.meaning.specs.ByTable.{same_list};
 ghost use Rattle.meaning.specs.Checking.{key_of, same_key};
-ghost use Rattle.runs.specs.Limits.{row_size, pattern_size, arg_places};
-ghost use Rattle.runs.specs.Runs.{args_from, row_count, count_in, arg_in, row_in, pattern_count, pattern_count_in};
+ghost use Rattle.runs.specs.Limits.{arg_places};
+ghost use Rattle.runs.specs.Runs.{row_count, count_in, args_in, row_in, pattern_count, pattern_count_in};
 ghost use Rattle.grounds_numbers.specs.Limits.{most_numbers};
-ghost use Rattle.grounds_numbers.specs.Keys.{arg_number, ArgNumbers, Holds, Copied, pattern_row, Keyed, Like};
+ghost use Rattle.grounds_numbers.specs.Keys.{ArgNumbers, Holds, Copied, pattern_row, Keyed, Like};
 
 use super::numbers::number_after;
-use runs::limits::{PLACES, ROW};
-use runs::{arg_in, count_in, head_in, pattern_arg_in, pattern_count_in, symbol_in};
+use runs::limits::{PATTERN, PLACES, ROW};
+use runs::{count_in, head_in, pattern_count_in, symbol_in};
 
 #[derive(Clone, Copy)]
 pub(crate) struct Key {
@@ -18,70 +17,18 @@ pub(crate) struct Key {
     pub places: [u16; PLACES],
 }
 
-// The number of argument k of row i, or 0 past the last.
-fn row_arg(rows: &[u16], numbers: &[u16], i: usize, count: usize, k: usize) -> u16
-    requires i_bound { i < row_count rows.now }
-    requires k_lt_arg_places { k < arg_places }
-    ensures { result ≡ arg_number numbers.now rows.now (i * row_size + 2) 0 count k }
-{
-    if k < count {
-        number_after(numbers, 0, arg_in(rows, i, k))
-    } else {
-        0
-    }
-}
-
-// The same of pattern row i, whose arguments are entries after so many.
-fn pattern_arg(
-    patterns: &[u16],
-    numbers: &[u16],
-    offset: usize,
-    i: usize,
-    count: usize,
-    k: usize,
-) -> u16
-    requires offset_in_bounds { offset ≤ length numbers.now }
-    requires i_bound { i < pattern_count patterns.now }
-    requires k_lt_arg_places { k < arg_places }
-    ensures { result ≡ arg_number numbers.now patterns.now (i * pattern_size + 3) offset count k }
-{
-    if k < count {
-        number_after(numbers, offset, pattern_arg_in(patterns, i, k))
-    } else {
-        0
-    }
-}
-
-// The numbers of the arguments of row i, and 0 past the last.
-fn row_args(rows: &[u16], numbers: &[u16], i: usize, count: usize) -> [u16; PLACES]
-    requires i_bound { i < row_count rows.now }
+// The numbers of the arguments that stand from a place on, which are entries after so many, and 0 past the last.
+fn places_of(run: &[u16], at: usize, count: usize, numbers: &[u16], offset: usize) -> [u16; PLACES]
+    requires room { at + arg_places ≤ length run.now }
     requires count_le_arg_places { count ≤ arg_places }
-    ensures { ArgNumbers numbers.now rows.now (i * row_size + 2) 0 count result }
-{
-    let a = row_arg(rows, numbers, i, count, 0);
-    let b = row_arg(rows, numbers, i, count, 1);
-    let c = row_arg(rows, numbers, i, count, 2);
-    let d = row_arg(rows, numbers, i, count, 3);
-    [a, b, c, d]
-}
-
-fn pattern_args(
-    patterns: &[u16],
-    numbers: &[u16],
-    offset: usize,
-    i: usize,
-    count: usize,
-) -> [u16; PLACES]
     requires offset_in_bounds { offset ≤ length numbers.now }
-    requires i_bound { i < pattern_count patterns.now }
-    requires count_le_arg_places { count ≤ arg_places }
-    ensures { ArgNumbers numbers.now patterns.now (i * pattern_size + 3) offset count result }
+    ensures { ArgNumbers numbers.now run.now at offset count result }
 {
-    let a = pattern_arg(patterns, numbers, offset, i, count, 0);
-    let b = pattern_arg(patterns, numbers, offset, i, count, 1);
-    let c = pattern_arg(patterns, numbers, offset, i, count, 2);
-    let d = pattern_arg(patterns, numbers, offset, i, count, 3);
-    [a, b, c, d]
+    let mut places = [0; PLACES];
+    for k in 0..count {
+        places[k] = number_after(numbers, offset, usize::from(run[at + k]));
+    }
+    places
 }
 
 // The key of context row i.
@@ -91,11 +38,10 @@ pub(crate) fn row_key(rows: &[u16], numbers: &[u16], i: usize) -> Key
     ensures { Holds (key_of numbers.now (row_in rows.now i)) result.symbol result.count result.places }
 {
     let count = count_in(rows, i);
-    let places = row_args(rows, numbers, i, count);
     Key {
         symbol: symbol_in(rows, i),
         count: count as u16,
-        places: places,
+        places: places_of(rows, i * ROW + 2, count, numbers, 0),
     }
 }
 
@@ -107,21 +53,11 @@ pub(crate) fn pattern_key(patterns: &[u16], numbers: &[u16], offset: usize, i: u
     ensures { Holds (key_of numbers.now (pattern_row offset patterns.now i)) result.symbol result.count result.places }
 {
     let count = pattern_count_in(patterns, i);
-    let places = pattern_args(patterns, numbers, offset, i, count);
     Key {
         symbol: head_in(patterns, i),
         count: count as u16,
-        places: places,
+        places: places_of(patterns, i * PATTERN + 3, count, numbers, offset),
     }
-}
-
-// Place k of the key of entry i, as a number of 16 bits.
-fn place_in(keys: &[u16], i: usize, k: usize) -> u16
-    requires i_bound { i < row_count keys.now }
-    requires k_lt_arg_places { k < arg_places }
-    ensures { result ≡ arg_in keys.now i k }
-{
-    keys[i * ROW + 2 + k]
 }
 
 // The key of an entry that has one.
@@ -130,32 +66,24 @@ pub(crate) fn held_key(keys: &[u16], i: usize) -> Key
     requires i_bound_2 { count_in keys.now i ≤ arg_places }
     ensures { Copied keys.now i result.symbol result.count result.places }
 {
-    let a = place_in(keys, i, 0);
-    let b = place_in(keys, i, 1);
-    let c = place_in(keys, i, 2);
-    let d = place_in(keys, i, 3);
+    let at = i * ROW + 2;
+    let mut places = [0; PLACES];
+    places.copy_from_slice(&keys[at..at + PLACES]);
     Key {
         symbol: symbol_in(keys, i),
         count: count_in(keys, i) as u16,
-        places: [a, b, c, d],
+        places,
     }
 }
 
-// Whether entries i and j have the same first count arguments.
-fn same_args(keys: &[u16], i: usize, j: usize, count: usize) -> bool
+// The numbers of the arguments of entry i.
+fn args_in(keys: &[u16], i: usize) -> &[u16]
     requires i_bound { i < row_count keys.now }
-    requires j_bound { j < row_count keys.now }
-    requires count_le_arg_places { count ≤ arg_places }
-    ensures { result ≡ same_list (args_from keys.now (i * row_size + 2) count) (args_from keys.now (j * row_size + 2) count) }
+    requires i_bound_2 { count_in keys.now i ≤ arg_places }
+    ensures { result.now ≡ args_in keys.now i }
 {
-    let mut k: usize = 0;
-    while k < count {
-        if arg_in(keys, i, k) != arg_in(keys, j, k) {
-            return false;
-        }
-        k += 1;
-    }
-    true
+    let at = i * ROW + 2;
+    &keys[at..at + count_in(keys, i)]
 }
 
 // Whether entries i and j have one key.
@@ -165,14 +93,7 @@ fn same_key(keys: &[u16], i: usize, j: usize, n: usize) -> bool
     requires j_lt_n { j < n }
     ensures { result ≡ same_key (row_in keys.now i) (row_in keys.now j) }
 {
-    if symbol_in(keys, i) != symbol_in(keys, j) {
-        return false;
-    }
-    let count = count_in(keys, i);
-    if count != count_in(keys, j) {
-        return false;
-    }
-    same_args(keys, i, j, count)
+    symbol_in(keys, i) == symbol_in(keys, j) && args_in(keys, i) == args_in(keys, j)
 }
 
 // The number of the first entry before entry e that has its key, or e.
@@ -182,12 +103,10 @@ pub(crate) fn like(keys: &[u16], numbers: &[u16], e: usize) -> u16
     requires e_lt_most_numbers { e < most_numbers }
     ensures { Like keys.now numbers.now e result }
 {
-    let mut j: usize = 0;
-    while j < e {
+    for j in 0..e {
         if same_key(keys, e, j, e + 1) {
             return numbers[j];
         }
-        j += 1;
     }
     e as u16
 }

@@ -6,11 +6,7 @@ ghost use Rattle.meaning.specs.Values.{number_at};
 pub fn number_of(numbers: &[u16], entry: usize) -> u16
     ensures { result ≡ number_at numbers.now entry }
 {
-    if entry < numbers.len() {
-        numbers[entry]
-    } else {
-        0
-    }
+    numbers.get(entry).copied().unwrap_or(0)
 }
 
 // The number of an entry that is counted from an offset on, and 0 past the last.
@@ -18,9 +14,5 @@ pub fn number_after(numbers: &[u16], offset: usize, entry: usize) -> u16
     requires { offset ≤ length numbers.now }
     ensures { result ≡ number_at numbers.now (offset + entry) }
 {
-    if entry < numbers.len() - offset {
-        numbers[offset + entry]
-    } else {
-        0
-    }
+    numbers[offset..].get(entry).copied().unwrap_or(0)
 }

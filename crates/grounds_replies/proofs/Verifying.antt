@@ -6,6 +6,7 @@ use mathlib.Core.Bool.{Bool, true, false}
 use mathlib.Core.List.{List, [], ◌∷◌, append-nil}
 use mathlib.Core.Path.{◌≡◌, refl, ap, sym, ◌∙◌, subst}
 use Prim.Native.Nat.{ℕ, suc, ◌%◌, ◌≤◌, ◌<◌}
+use Rattle.std.specs.Prelude.{Ok, Err}
 use native.Mathlib.Omega.{arith}
 use lib.Dec.{ltb}
 use borrow.Author.Tests.{ltb-true, ltb-false}
@@ -23,9 +24,7 @@ use Rattle.runs.specs.Limits.{most_literals}
 use Rattle.grounds_steps.specs.Steps.{steps_of}
 use Rattle.grounds_verdict.proofs.Concluding.{conclusions-at}
 use Rattle.grounds_judgement.specs.Judgements.{Judgement, judged, refused, Weighed, empty, clashes, weighs, Judges, faults, judges}
-use Rattle.grounds_judgement.specs.Claims.{judgement_of, concluded_in}
-use Rattle.grounds_judgement.specs.declared.Outcome.{Outcome}
-use Rattle.grounds_judgement.specs.declared.Outcome.TheVariants as O
+use Rattle.grounds_judgement.specs.Claims.{Outcome, judgement_of, concluded_in}
 use Rattle.grounds_judgement.proofs.Answers.{judges-one}
 use Rattle.grounds_intake.specs.Parsing.{text_of, ground_lines, places_in, conclusions_in}
 use Rattle.grounds_intake.specs.Machine.{Memory}
@@ -115,8 +114,8 @@ module _ (a : List ℕ) (steps : List Step) (ds : List Conclusion) (text : List 
 
   line-is : (o : Outcome) → Judges a steps ds narrow text (judgement_of o) → line_of o ≡ printed (judgement_of o)
   unfolding printed bytes_of
-  line-is (O.Judged x) w = ap (λ (l : List ℕ). frame (11 ∷ case_of (verdict_of x) ∷ l)) (details-bytes (verdict_of x) w)
-  line-is (O.Refused x) w = refl
+  line-is (Ok x) w = ap (λ (l : List ℕ). frame (11 ∷ case_of (verdict_of x) ∷ l)) (details-bytes (verdict_of x) w)
+  line-is (Err x) w = refl
 
 -- ---- the line
 

@@ -4,16 +4,14 @@
 --     Answered      the judgement on what was taken in
 --     PrintsFor     the line for it
 -- Assumes nothing.
-use Rattle.std.specs.Prelude.{List, ◌∷◌, map, ℕ, ◌%◌, ◌≤◌, ◌<◌, take}
+use Rattle.std.specs.Prelude.{List, ◌∷◌, map, ℕ, ◌%◌, ◌≤◌, ◌<◌, take, Ok, Err}
 use Rattle.meaning.specs.Writing.{frame}
 use Rattle.meaning.specs.Replies.{refusal, input_limit}
 use Rattle.meaning.specs.Grounds.{Verdict, case_of, details_of}
 use Rattle.grounds_verdict.specs.Claims.{verdict_of}
 use Rattle.replies.specs.Told.{meant}
 use Rattle.grounds_judgement.specs.Judgements.{refused}
-use Rattle.grounds_judgement.specs.Claims.{JudgesTo}
-use Rattle.grounds_judgement.specs.declared.Outcome.{Outcome}
-use Rattle.grounds_judgement.specs.declared.Outcome.TheVariants.{Judged, Refused}
+use Rattle.grounds_judgement.specs.Claims.{Outcome, JudgesTo}
 use Rattle.grounds_intake.specs.declared.Parser.{Parser}
 use Rattle.reply_lines.specs.Prints.{Prints}
 use Rattle.grounds_replies.specs.Replies.{printed, step_limit}
@@ -27,8 +25,8 @@ abbrev pub verdict_line : Verdict → List ℕ
 verdict_line v = frame (11 ∷ case_of v ∷ lowest (details_of v))
 
 abbrev pub line_of : Outcome → List ℕ
-line_of (Judged a) = verdict_line (verdict_of a)
-line_of (Refused x) = printed (refused (meant x))
+line_of (Ok a) = verdict_line (verdict_of a)
+line_of (Err x) = printed (refused (meant x))
 
 pub record Answered (p : Parser) (text : List ℕ) (steps : List (List ℕ)) (o : Outcome) : Type 0 where
   pub judges : JudgesTo (take p.head.size text) p.places (take p.steps steps) p.noted.conclusions o

@@ -36,6 +36,7 @@ pub const KIND: u64 = LEFT_MARK * BYTE;
 pub const OWNER: u64 = KIND * BYTE;
 
 // The owner, the kind and the sides of step i.
+// Three readers, since the name says which word of a step it is.
 pub fn sides_in(steps: &[[u64; WORDS]], i: usize) -> u64
     requires { i < length steps.now }
     ensures { result ≡ word_in steps.now i 0 }

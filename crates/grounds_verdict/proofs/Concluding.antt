@@ -8,9 +8,9 @@ use mathlib.Core.Path.{◌≡◌, refl, ap, sym, ◌∙◌}
 use Prim.Native.Nat.{ℕ, zero, suc, ◌+◌, ◌-◌, ◌≤◌, ◌<◌}
 use native.Mathlib.Numerals.{add-one}
 use native.Mathlib.Omega.{arith}
-use lib.Dec.{ltb}
+use lib.Dec.{ltb, eqb}
 use borrow.Author.Rules.{rules}
-use borrow.Author.Tests.{eq-eqb, ne_eqb, lt-ltb, le-ltb, le-leb, lt-leb, ltb-true, ltb-false}
+use borrow.Author.Tests.{eq-eqb, ne_eqb, ltb-true, ltb-false, eqb-true, eqb-false}
 use lib.ListN.{length, get_or}
 use Rattle.meaning.specs.Grounds.{Conclusion, conclusion_for, literal₀}
 use Rattle.meaning.specs.Values.{number_at}
@@ -25,6 +25,7 @@ use Rattle.grounds_numbers.specs.Pairs.{pair_count, first_in, second_in, pairs_i
 use Rattle.grounds_numbers.proofs.Pairing.{pairs-length, pairs-at}
 use Rattle.grounds_verdict.specs.Tests.{instances_in, cited_at, differs_at, concluded_in, concluded_at}
 use Rattle.grounds_verdict.specs.declared.Conclusions.{Conclusions}
+use Rattle.grounds_verdict.proofs.Numbers.{counted}
 use Rattle.grounds_verdict.proofs.Owning.{literal-equal, literal-unequal}
 
 -- ---- conclusions by their places
@@ -65,52 +66,50 @@ concluded-for d j h =
 
 -- ---- a stated difference
 
-module _ (pairs ns : List ℕ) (n : ℕ) (steps : List (List ℕ)) (o x d : ℕ) where
-  pub differs-zero : d ≡ 0 → false ≡ differs_at pairs ns n steps o x d
-  unfolding differs_by_steps counts
-  differs-zero e = rw (le-ltb 0 d (omega arith))
+module _ (pairs ns : List ℕ) (n : ℕ) (steps : List (List ℕ)) (o x d c : ℕ) (ec : c ≡ pair_count pairs) where
+  pub differs-none : counts c d ≡ false → false ≡ differs_at pairs ns n steps o x d
+  unfolding differs_by_steps
+  differs-none e = rw (pairs-length pairs, ← ec, e)
 
-  module _ (c : ℕ) (ec : c ≡ pair_count pairs) (h : d ≡ 0 → ⊥) where
-    pub differs-late : c ≤ d - 1 → false ≡ differs_at pairs ns n steps o x d
-    unfolding differs_by_steps counts
-    differs-late i = rw (lt-ltb 0 d (omega arith), lt-leb d (length (pairs_in pairs)) (omega (arith, pairs-length pairs)))
-
-    pub differs-cited : (b : Bool) (p q : ℕ) → d - 1 < c → p ≡ first_in pairs (d - 1) → q ≡ second_in pairs (d - 1)
-        → b ≡ cited_at ns n steps (length steps) o x p q
-        → b ≡ differs_at pairs ns n steps o x d
-    unfolding differs_by_steps counts
-    differs-cited b p q i ep eq e =
-        rw (
-          lt-ltb 0 d (omega arith),
-          le-leb d (length (pairs_in pairs)) (omega (arith, pairs-length pairs)),
-          steps-length steps,
-          ap (λ (z : ℕ × ℕ). z.0) (pairs-at pairs (d - 1) (omega arith)),
-          ap (λ (z : ℕ × ℕ). z.1) (pairs-at pairs (d - 1) (omega arith)),
-          ← ep,
-          ← eq,
-        )
-        e
+  pub differs-cited : (b : Bool) (place p q : ℕ) → (d ≡ place + 1) × (place < c) → p ≡ first_in pairs place → q ≡ second_in pairs place
+      → b ≡ cited_at ns n steps (length steps) o x p q
+      → b ≡ differs_at pairs ns n steps o x d
+  unfolding differs_by_steps
+  differs-cited b place p q h ep eq e =
+      let before : d - 1 ≡ place = omega arith in
+      rw (
+        pairs-length pairs,
+        ← ec,
+        counted c d place h,
+        before,
+        steps-length steps,
+        ap (λ (z : ℕ × ℕ). z.0) (pairs-at pairs place (omega arith)),
+        ap (λ (z : ℕ × ℕ). z.1) (pairs-at pairs place (omega arith)),
+        ← ep,
+        ← eq,
+      )
+      e
 
 -- ---- a literal and its conclusion
 
 module _ (literals : List ℕ) (d : Conclusions) (pairs ns : List ℕ) (n : ℕ) (steps : List (List ℕ)) (j : ℕ) (inside : j < literal_count literals)
-    (few : literal_count literals ≤ most_literals) (x s : ℕ) (ex : x ≡ get_or d.firsts j 0) (es : s ≡ sign_in literals j) where
+    (few : literal_count literals ≤ most_literals) (x : ℕ) (ex : x ≡ get_or d.firsts j 0) (s : Bool) (es : s ≡ eqb (sign_in literals j) 6) where
   concluded-at : concluded_at literals d pairs ns n steps j
       ≡ concludes_by ns n (instances_in ns n) (pairs_in pairs) (steps_of steps) (suc j) (record { literal = suc j; first = x; difference = get_or d.differences j 0 }) (literal_in literals j)
   unfolding concluded_by conclusion_from
   concluded-at = rw (concluded-for d j (omega arith), literals-at literals j literal₀ inside, ex)
 
-  pub concluded-equal : (b : Bool) (p q l r : ℕ) → s ≡ 6 → p ≡ left_in literals j → q ≡ right_in literals j → l ≡ number_at ns (n + p) → r ≡ number_at ns (n + q)
+  pub concluded-equal : (b : Bool) (p q l r : ℕ) → s ≡ true → p ≡ left_in literals j → q ≡ right_in literals j → l ≡ number_at ns (n + p) → r ≡ number_at ns (n + q)
       → b ≡ cited_at ns n steps (length steps) 0 x l r
       → b ≡ concluded_at literals d pairs ns n steps j
   unfolding concludes_by
   concluded-equal b p q l r e ep eq el er f =
-      sym (concluded-at ∙ rw (literal-equal literals j (sym es ∙ e), steps-length steps, ← ep, ← eq, ← el, ← er) (sym f))
+      sym (concluded-at ∙ rw (literal-equal literals j (eqb-true (sign_in literals j) 6 (sym es ∙ e)), steps-length steps, ← ep, ← eq, ← el, ← er) (sym f))
 
-  pub concluded-unequal : (b : Bool) (z : ℕ) → (s ≡ 6 → ⊥) → z ≡ get_or d.differences j 0 → b ≡ differs_at pairs ns n steps (j + 1) x z
+  pub concluded-unequal : (b : Bool) (z : ℕ) → s ≡ false → z ≡ get_or d.differences j 0 → b ≡ differs_at pairs ns n steps (j + 1) x z
       → b ≡ concluded_at literals d pairs ns n steps j
   unfolding concludes_by
   concluded-unequal b z e ez f =
-      sym (concluded-at ∙ rw (literal-unequal literals j (λ q. e (es ∙ q)), ← ez, ← add-one j) (sym f))
+      sym (concluded-at ∙ rw (literal-unequal literals j (eqb-false (sign_in literals j) 6 (sym es ∙ e)), ← ez, ← add-one j) (sym f))
 
-pub ruleset mine = (rules, differs-zero, differs-late, differs-cited, concluded-equal, concluded-unequal)
+pub ruleset mine = (rules, differs-none, differs-cited, concluded-equal, concluded-unequal)

@@ -1,14 +1,14 @@
 -- A step by each way out of the code: its kind, its owner and its sides.
 --     mine    what `derives` and `follows` leave to show
 -- Assumes nothing.
-use mathlib.Core.Bool.{Bool, true, false, not, ◌&&◌}
+use mathlib.Core.Bool.{Bool, true, false, ◌&&◌}
 use mathlib.Core.List.{List}
 use mathlib.Core.Path.{◌≡◌, refl, ap, sym, ◌∙◌}
 use Prim.Native.Nat.{ℕ, ◌+◌, ◌≤◌, ◌<◌}
 use native.Mathlib.Omega.{arith}
 use lib.Dec.{eqb, ltb}
 use borrow.Author.Rules.{rules}
-use borrow.Author.Tests.{ne_eqb, lt-ltb, le-ltb, not-true, not-false}
+use borrow.Author.Tests.{ne_eqb, lt-ltb, le-ltb}
 use lib.ListN.{length, get_or}
 use Rattle.meaning.specs.Context.{Row}
 use Rattle.meaning.specs.Rules.{Literal}
@@ -22,6 +22,9 @@ use Rattle.grounds_steps.proofs.Saying.{step-at}
 use Rattle.grounds_numbers.specs.Keys.{Keyed}
 use Rattle.grounds_numbers.specs.Pairs.{pairs_in}
 use Rattle.grounds_verdict.specs.Tests.{instances_in, kind_at, numbers_at, cited_at, met_at, congruent_at, added_at, derives_at, follows_at}
+use Rattle.grounds_verdict.specs.Reasons.{kind_number}
+use Rattle.grounds_verdict.specs.declared.words.Reason.{Reason}
+use Rattle.grounds_verdict.specs.declared.words.Reason.TheVariants.{Statement, Reflexivity, Symmetry, Transitivity, Congruence, Addition}
 use Rattle.grounds_verdict.proofs.Ways.{and-off}
 
 -- ---- the kinds
@@ -33,44 +36,54 @@ unfolding derives_by
 no_kind ns n m ks eqs ls steps limit o kind xs l r a b c d e f =
     sym (rw (ne_eqb kind 1 a, derives_by, ne_eqb kind 2 b, ne_eqb kind 3 c, ne_eqb kind 4 d, ne_eqb kind 5 e, ne_eqb kind 6 f))
 
-module _ (keys pairs literals ns : List ℕ) (n : ℕ) (steps : List (List ℕ)) (i o l r w kind : ℕ) (ew : w ≡ word_in steps i 0) (ek : kind ≡ kind_in w) where
-  kind-as : kind ≡ kind_at steps i
-  kind-as = ek ∙ ap kind_in ew
+pub reasonless : (kind : ℕ) → (kind ≡ 1 → ⊥) → (kind ≡ 2 → ⊥) → (kind ≡ 3 → ⊥) → (kind ≡ 4 → ⊥) → (kind ≡ 5 → ⊥) → (kind ≡ 6 → ⊥)
+    → (why : Reason)
+    → kind ≡ kind_number why
+    → ⊥
+reasonless kind a b c d e f Statement h = a h
+reasonless kind a b c d e f Reflexivity h = b h
+reasonless kind a b c d e f Symmetry h = c h
+reasonless kind a b c d e f Transitivity h = d h
+reasonless kind a b c d e f Congruence h = e h
+reasonless kind a b c d e f Addition h = f h
 
-  abbrev derived : Bool
-  derived = derives_at keys pairs literals ns n steps i o l r
+module _ (keys pairs literals ns : List ℕ) (n : ℕ) (steps : List (List ℕ)) (i o l r w : ℕ) (ew : w ≡ word_in steps i 0) where
+  pub derives-none : ((why : Reason) → kind_in w ≡ kind_number why → ⊥) → false ≡ derives_at keys pairs literals ns n steps i o l r
+  derives-none h =
+      rw (← ew)
+      (no_kind ns n (instances_in ns n) (rows_of keys) (pairs_in pairs) (literals_of literals) (steps_of steps) i o (kind_in w) (numbers_at steps i) l r (h Statement) (h Reflexivity) (h Symmetry) (h Transitivity) (h Congruence) (h Addition))
 
-  module _ (x : ℕ) (ex : x ≡ get_or (numbers_at steps i) 0 0) where
-    pub derives-stated : (b : Bool) → kind ≡ 1 → b ≡ paired_by (pairs_in pairs) x l r → b ≡ derives_at keys pairs literals ns n steps i o l r
+  module _ (why : Reason) (ek : kind_in w ≡ kind_number why) where
+    kind-as : (x : Reason) → why ≡ x → kind_at steps i ≡ kind_number x
+    kind-as x e = ap kind_in (sym ew) ∙ ek ∙ ap kind_number e
+
+    module _ (x : ℕ) (ex : x ≡ get_or (numbers_at steps i) 0 0) (b : Bool) where
+      pub derives-stated : why ≡ Statement → b ≡ paired_by (pairs_in pairs) x l r → b ≡ derives_at keys pairs literals ns n steps i o l r
+      unfolding derives_by
+      derives-stated e f = rw (kind-as Statement e, ← ex) f
+
+      pub derives-symmetric : why ≡ Symmetry → b ≡ cited_at ns n steps i o x r l → b ≡ derives_at keys pairs literals ns n steps i o l r
+      unfolding derives_by
+      derives-symmetric e f = rw (kind-as Symmetry e, ← ex) f
+
+      pub derives-transitive : (y : ℕ) → why ≡ Transitivity → y ≡ get_or (numbers_at steps i) 1 0 → b ≡ met_at ns n steps i o x y l r
+          → b ≡ derives_at keys pairs literals ns n steps i o l r
+      unfolding derives_by
+      derives-transitive y e ey f = rw (kind-as Transitivity e, ← ex, ← ey) f
+
+    pub derives-reflexive : why ≡ Reflexivity → eqb l r ≡ derives_at keys pairs literals ns n steps i o l r
     unfolding derives_by
-    derives-stated b e f = rw (← kind-as, e, ← ex) f
+    derives-reflexive e = rw (kind-as Reflexivity e)
 
-    pub derives-symmetric : (b : Bool) → kind ≡ 3 → b ≡ cited_at ns n steps i o x r l → b ≡ derives_at keys pairs literals ns n steps i o l r
-    unfolding derives_by
-    derives-symmetric b e f = rw (← kind-as, e, ← ex) f
-
-    pub derives-transitive : (b : Bool) (y : ℕ) → kind ≡ 4 → y ≡ get_or (numbers_at steps i) 1 0 → b ≡ met_at ns n steps i o x y l r
+    pub derives-congruent : (b : Bool) → why ≡ Congruence → Keyed keys (length ns) → l < length ns → r < length ns → b ≡ congruent_at keys ns n steps i o l r
         → b ≡ derives_at keys pairs literals ns n steps i o l r
     unfolding derives_by
-    derives-transitive b y e ey f = rw (← kind-as, e, ← ex, ← ey) f
+    derives-congruent b e keyed hl hr f =
+        rw (kind-as Congruence e, rows-at keys l (omega (arith, keyed.room)), rows-at keys r (omega (arith, keyed.room))) f
 
-  pub derives-reflexive : kind ≡ 2 → eqb l r ≡ derives_at keys pairs literals ns n steps i o l r
-  unfolding derives_by
-  derives-reflexive e = rw (← kind-as, e)
-
-  pub derives-congruent : (b : Bool) → kind ≡ 5 → Keyed keys (length ns) → l < length ns → r < length ns → b ≡ congruent_at keys ns n steps i o l r
-      → b ≡ derives_at keys pairs literals ns n steps i o l r
-  unfolding derives_by
-  derives-congruent b e keyed hl hr f =
-      rw (← kind-as, e, rows-at keys l (omega (arith, keyed.room)), rows-at keys r (omega (arith, keyed.room))) f
-
-  pub derives-added : (b : Bool) → kind ≡ 6 → b ≡ added_at literals ns n o l r → b ≡ derives_at keys pairs literals ns n steps i o l r
-  unfolding derives_by
-  derives-added b e f = rw (← kind-as, e) f
-
-  pub derives-none : (kind ≡ 1 → ⊥) → (kind ≡ 2 → ⊥) → (kind ≡ 3 → ⊥) → (kind ≡ 4 → ⊥) → (kind ≡ 5 → ⊥) → (kind ≡ 6 → ⊥)
-      → false ≡ derives_at keys pairs literals ns n steps i o l r
-  derives-none a b c d e f = rw (← kind-as) (no_kind ns n (instances_in ns n) (rows_of keys) (pairs_in pairs) (literals_of literals) (steps_of steps) i o kind (numbers_at steps i) l r a b c d e f)
+    pub derives-added : (b : Bool) → why ≡ Addition → b ≡ added_at literals ns n o l r → b ≡ derives_at keys pairs literals ns n steps i o l r
+    unfolding derives_by
+    derives-added b e f = rw (kind-as Addition e) f
 
 -- ---- a step
 
@@ -96,8 +109,8 @@ module _ (keys pairs literals ns : List ℕ) (n : ℕ) (few : n ≤ length ns) (
   unfolding follows_by step_from
   follows-words = rw (step-at steps i inside, eo, ew, all)
 
-  pub follows-owner : (b : Bool) → b ≡ owner_by (literals_of literals) o → not b ≡ true → false ≡ follows_at keys pairs literals ns n steps i
-  follows-owner b e f = sym (follows-words ∙ rw (← e, not-true b f))
+  pub follows-owner : (b : Bool) → b ≡ owner_by (literals_of literals) o → b ≡ false → false ≡ follows_at keys pairs literals ns n steps i
+  follows-owner b e f = sym (follows-words ∙ rw (← e, f))
 
   module _ (l : ℕ) (el : l ≡ side_of ns n (instances_in ns n) (left_ref w)) where
     pub follows-left : length ns ≤ l → false ≡ follows_at keys pairs literals ns n steps i
@@ -107,13 +120,14 @@ module _ (keys pairs literals ns : List ℕ) (n : ℕ) (few : n ≤ length ns) (
       pub follows-right : length ns ≤ r → false ≡ follows_at keys pairs literals ns n steps i
       follows-right h = sym (follows-words ∙ rw (← el, ← er, lt-ltb l (length ns) hl, le-ltb r (length ns) h) (and-off owned false refl))
 
-      pub follows-derives : r < length ns → (b d : Bool) → b ≡ owner_by (literals_of literals) o → not b ≡ false → d ≡ derives_at keys pairs literals ns n steps i o l r
+      pub follows-derives : r < length ns → (b d : Bool) → b ≡ owner_by (literals_of literals) o → b ≡ true → d ≡ derives_at keys pairs literals ns n steps i o l r
           → d ≡ follows_at keys pairs literals ns n steps i
       follows-derives h b d eb hb q =
-          sym (follows-words ∙ rw (← el, ← er, ← eb, not-false b hb, lt-ltb l (length ns) hl, lt-ltb r (length ns) h, ← q))
+          sym (follows-words ∙ rw (← el, ← er, ← eb, hb, lt-ltb l (length ns) hl, lt-ltb r (length ns) h, ← q))
 
 pub ruleset mine = (
   rules,
+  reasonless,
   derives-stated,
   derives-reflexive,
   derives-symmetric,

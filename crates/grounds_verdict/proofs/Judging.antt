@@ -1,9 +1,8 @@
 -- The verdict by each way out of the code.
 --     mine    what the functions of the crate's root leave to show
 -- Assumes nothing.
-use mathlib.Core.Bool.{Bool, true, false}
 use mathlib.Core.List.{List, []}
-use mathlib.Core.Path.{◌≡◌, ap, ap₂, sym, ◌∙◌, subst}
+use mathlib.Core.Path.{◌≡◌, ap, ap₂, sym, ◌∙◌}
 use Prim.Native.Nat.{ℕ, ◌+◌, ◌*◌, ◌≤◌, ◌<◌}
 use native.Mathlib.Numerals.{add-one}
 use native.Mathlib.Omega.{arith}
@@ -25,51 +24,32 @@ use Rattle.grounds_steps.specs.Steps.{steps_of}
 use Rattle.grounds_steps.proofs.Saying.{steps-length}
 use Rattle.grounds_numbers.specs.Limits.{most_entries, entry_run, pair_size, pair_run}
 use Rattle.grounds_numbers.specs.Keys.{Keyed}
-use Rattle.grounds_numbers.specs.Pairs.{pairs_in, pairs_of, Held}
+use Rattle.grounds_numbers.specs.Pairs.{pairs_of}
 use Rattle.grounds_numbers.specs.Entries.{entries_of, entry_count, Fillable, Room, Filled}
 use Rattle.grounds_numbers.proofs.Extending.{filled-keyed, filled-keys}
-use Rattle.grounds_verdict.specs.Tests.{instances_in, concluded_in, follows_at, follows_with, concluded_at, concluded_with}
+use Rattle.std.specs.Prelude.{Some, None}
+use Rattle.grounds_verdict.specs.Tests.{FirstFalse, instances_in, concluded_in, follows_with, concluded_with}
 use Rattle.grounds_verdict.specs.Claims.{WellFormed, Chosen}
 use Rattle.grounds_verdict.specs.declared.Conclusions.{Conclusions}
 
--- ---- stated pairs at the start of a run
-
-module _ (said literals ns : List ℕ) (n : ℕ) (steps : List (List ℕ)) (run : List ℕ) (count size m x : ℕ) (em : m ≡ count * pair_size) where
-  pub held-room : (b : Bool) → Held (numbered ns (pairs_of b (statements_of said))) run count → m ≤ length run
-  held-room b h = omega (arith, h.room)
-
-  pub held_steps : (keys : List ℕ) → Held (numbered ns (pairs_of true (statements_of said))) run count → Ends (follows_at keys (take m run) literals ns n steps) size x
-      → Ends (follows_with said literals keys ns n steps) size x
-  held_steps keys h w =
-      subst (λ (l : List (ℕ × ℕ)). Ends (follows_by ns n (instances_in ns n) (rows_of keys) l (literals_of literals) (steps_of steps)) size x)
-      (ap (λ (z : ℕ). pairs_in (take z run)) em ∙ h.hold)
-      w
-
-  pub held-literals : (d : Conclusions) → Held (numbered ns (pairs_of false (statements_of said))) run count → Ends (concluded_at literals d (take m run) ns n steps) size x
-      → Ends (concluded_with said literals ns n steps d) size x
-  held-literals d h w =
-      subst (λ (l : List (ℕ × ℕ)). Ends (concluded_by ns n (instances_in ns n) l (literals_of literals) (steps_of steps) (concluded_in d)) size x)
-      (ap (λ (z : ℕ). pairs_in (take z run)) em ∙ h.hold)
-      w
-
 -- ---- an assignment
 
-module _ (rows said patterns literals a : List ℕ) (n v height : ℕ) (eh : height ≡ row_count rows) (en : n ≡ variables (patterns_of patterns)) (ends : Ends (assigned_by height a) n v) where
-  all-ends : Ends (assigned_by (length (rows_of rows)) a) (variables (patterns_of patterns)) v
-  all-ends = rw (length-rows rows, ← eh, ← en) ends
+module _ (rows said patterns literals a : List ℕ) (n height : ℕ) (eh : height ≡ row_count rows) (en : n ≡ variables (patterns_of patterns)) where
+  all-ends : (v : ℕ) → Ends (assigned_by height a) n v → Ends (assigned_by (length (rows_of rows)) a) (variables (patterns_of patterns)) v
+  all-ends v ends = rw (length-rows rows, ← eh, ← en) ends
 
-  pub judge-unassigned : (steps : List (List ℕ)) (d : Conclusions) → v < n
+  pub judge-unassigned : (steps : List (List ℕ)) (d : Conclusions) (v : ℕ) → FirstFalse (assigned_by height a) n (Some v)
       → Verified (context_of rows said) (clause_of patterns literals) a (steps_of steps) (concluded_in d) (unassigned v)
-  judge-unassigned steps d h =
-      verdict-unassigned (context_of rows said) (clause_of patterns literals) a (steps_of steps) (concluded_in d) v all-ends (omega arith)
+  judge-unassigned steps d v h =
+      verdict-unassigned (context_of rows said) (clause_of patterns literals) a (steps_of steps) (concluded_in d) v (all-ends v h.1) (omega (arith, h.0))
 
-  pub judge-chosen : length a ≡ most_variables → n ≤ v → Chosen rows patterns a
-  judge-chosen four h =
+  pub judge-chosen : length a ≡ most_variables → FirstFalse (assigned_by height a) n None → Chosen rows patterns a
+  judge-chosen four ends =
       record {
         four = four;
         chosen = λ x l.
             let q : (x < length a) × (get_or a x 0 < length (rows_of rows)) =
-            all-assigned (context_of rows said) (clause_of patterns literals) a (steps_of []) [] v all-ends (omega arith) x l in
+            all-assigned (context_of rows said) (clause_of patterns literals) a (steps_of []) [] n (all-ends n ends) (omega arith) x l in
             (q.0, omega (arith, q.1, length-rows rows));
       }
 
@@ -156,47 +136,43 @@ module _ (rows said patterns literals a : List ℕ) (w : WellFormed rows said pa
       instances : instances_in ns n ≡ pattern_count patterns
       instances = omega (arith, numbers-long)
 
-      module _ (steps : List (List ℕ)) (i : ℕ) (ei : Ends (follows_with said literals keys ns n steps) (length steps) i) (d : Conclusions) where
-        step-ends : Ends (follows_by ns (length (rows_of rows)) (length (patterns_of patterns)) (keys_of ns (entries_of rows a patterns)) (numbered ns (equations_of (statements_of said))) (literals_of literals) (steps_of steps)) (length (steps_of steps)) i
+      module _ (steps : List (List ℕ)) (d : Conclusions) where
+        step-ends : (i : ℕ) → Ends (follows_with said literals keys ns n steps) (length steps) i
+            → Ends (follows_by ns (length (rows_of rows)) (length (patterns_of patterns)) (keys_of ns (entries_of rows a patterns)) (numbered ns (equations_of (statements_of said))) (literals_of literals) (steps_of steps)) (length (steps_of steps)) i
         unfolding pairs_of
-        step-ends =
+        step-ends i ei =
             rw (length-rows rows, length-patterns patterns, ← filled-keys (entries_of rows a patterns) keys ns (entry_count rows patterns) f all-long, steps-length steps, ← en, ← instances) ei
 
-        pub judge-bad : i < length steps → Verified (context_of rows said) (clause_of patterns literals) a (steps_of steps) (concluded_in d) (bad (i + 1))
-        judge-bad h =
+        pub judge-bad : (i : ℕ) → FirstFalse (follows_with said literals keys ns n steps) (length steps) (Some i)
+            → Verified (context_of rows said) (clause_of patterns literals) a (steps_of steps) (concluded_in d) (bad (i + 1))
+        judge-bad i h =
             rw (add-one i)
-            (verdict-bad (context_of rows said) (clause_of patterns literals) a (steps_of steps) (concluded_in d) ns ready i step-ends (omega (arith, steps-length steps)))
+            (verdict-bad (context_of rows said) (clause_of patterns literals) a (steps_of steps) (concluded_in d) ns ready i (step-ends i h.1) (omega (arith, h.0, steps-length steps)))
 
-        module _ (late : length steps ≤ i) (j c : ℕ) (ec : c ≡ literal_count literals) (ej : Ends (concluded_with said literals ns n steps d) (literal_count literals) j) where
-          literal-ends : Ends (concluded_by ns (length (rows_of rows)) (length (patterns_of patterns)) (numbered ns (differences_of (statements_of said))) (literals_of literals) (steps_of steps) (concluded_in d)) (length (literals_of literals)) j
+        module _ (good : FirstFalse (follows_with said literals keys ns n steps) (length steps) None) where
+          literal-ends : (j : ℕ) → Ends (concluded_with said literals ns n steps d) (literal_count literals) j
+              → Ends (concluded_by ns (length (rows_of rows)) (length (patterns_of patterns)) (numbered ns (differences_of (statements_of said))) (literals_of literals) (steps_of steps) (concluded_in d)) (length (literals_of literals)) j
           unfolding pairs_of
-          literal-ends = rw (length-rows rows, length-patterns patterns, length-literals literals, ← en, ← instances) ej
+          literal-ends j ej = rw (length-rows rows, length-patterns patterns, length-literals literals, ← en, ← instances) ej
 
-          pub judge-open : j < c → Verified (context_of rows said) (clause_of patterns literals) a (steps_of steps) (concluded_in d) (unconcluded (j + 1))
-          judge-open h =
+          pub judge-open : (j : ℕ) → FirstFalse (concluded_with said literals ns n steps d) (literal_count literals) (Some j)
+              → Verified (context_of rows said) (clause_of patterns literals) a (steps_of steps) (concluded_in d) (unconcluded (j + 1))
+          judge-open j h =
               rw (add-one j)
-              (verdict-unconcluded (context_of rows said) (clause_of patterns literals) a (steps_of steps) (concluded_in d) ns ready i j step-ends (omega (arith, steps-length steps)) literal-ends
-              (omega (arith, length-literals literals)))
+              (verdict-unconcluded (context_of rows said) (clause_of patterns literals) a (steps_of steps) (concluded_in d) ns ready (length steps) j (step-ends (length steps) good) (omega (arith, steps-length steps)) (literal-ends j h.1)
+              (omega (arith, h.0, length-literals literals)))
 
-          pub judge-accepted : c ≤ j → Verified (context_of rows said) (clause_of patterns literals) a (steps_of steps) (concluded_in d) accepted
+          pub judge-accepted : FirstFalse (concluded_with said literals ns n steps d) (literal_count literals) None
+              → Verified (context_of rows said) (clause_of patterns literals) a (steps_of steps) (concluded_in d) accepted
           judge-accepted h =
-              verdict-accepted (context_of rows said) (clause_of patterns literals) a (steps_of steps) (concluded_in d) ns ready i j step-ends (omega (arith, steps-length steps)) literal-ends
+              verdict-accepted (context_of rows said) (clause_of patterns literals) a (steps_of steps) (concluded_in d) ns ready (length steps) (literal_count literals) (step-ends (length steps) good) (omega (arith, steps-length steps)) (literal-ends (literal_count literals) h)
               (omega (arith, length-literals literals))
 
 pub ruleset mine = (
   rules,
-  held-room,
-  held_steps,
-  held-literals,
   judge-unassigned,
   judge-chosen,
   fit-formed,
-  part-long,
-  made-pairs,
-  made-numbers,
-  made-room,
-  made-keys,
-  judge-fillable,
   judge-keyed,
   judge-inside,
   judge-bad,

@@ -1,38 +1,36 @@
 -- The numbers of references, and steps cited, by each way out of the code.
---     mine    what the functions of `sides` leave to show
+--     counted, cited-none    what is counted from 1, and a step that is not
+--     mine                  what the functions of `words`, `table` and `citing` leave to show
 -- Assumes nothing.
-use mathlib.Core.Bool.{Bool, true, false, not, ◌&&◌, ◌||◌}
+use mathlib.Core.Bool.{Bool, true, false, ◌&&◌, ◌||◌}
 use mathlib.Core.List.{List}
-use mathlib.Core.Path.{◌≡◌, ap, sym, ◌∙◌}
-use Prim.Native.Nat.{ℕ, ◌+◌, ◌-◌, ◌/◌, ◌%◌, ◌≤◌, ◌<◌}
+use mathlib.Core.Path.{◌≡◌, refl, sym, ◌∙◌}
+use Prim.Native.Nat.{ℕ, ◌+◌, ◌-◌, ◌≤◌, ◌<◌}
 use native.Mathlib.Omega.{arith}
-use lib.Dec.{eqb}
+use lib.Dec.{eqb, ltb, leb}
 use borrow.Author.Rules.{rules}
-use borrow.Author.Tests.{eq-eqb, ne_eqb, lt-ltb, le-ltb, le-leb, lt-leb, not-true, not-false}
-use lib.ListN.{length, get_or, get_or-eq_default}
+use borrow.Author.Tests.{eq-eqb, ne_eqb, lt-ltb, le-ltb, le-leb, ltb-true, leb-true}
+use lib.ListN.{length, get_or}
 use Rattle.meaning.specs.Checking.{number_below, side_of, counts, sides_by, used_by, cited_by}
 use Rattle.meaning.specs.GroundColumns.{owner_of, left_ref, right_ref, step_from}
-use Rattle.grounds_steps.specs.Steps.{number_values, word_in, steps_of}
+use Rattle.grounds_steps.specs.Steps.{word_in, steps_of}
 use Rattle.grounds_steps.proofs.Saying.{step-at}
-use Rattle.grounds_verdict.specs.Tests.{instances_in, numbers_at}
+use Rattle.grounds_verdict.specs.Tests.{instances_in}
 
--- ---- steps by their words
+-- ---- what is counted from 1
 
-module _ (steps : List (List ℕ)) (i k y : ℕ) where
-  pub number-first : k ≡ 0 → y ≡ word_in steps i 1 → y / number_values ≡ get_or (numbers_at steps i) k 0
-  number-first e f = rw (e, f)
+pub uncounted : (count x : ℕ) → ((0 < x) × (x ≤ count) → ⊥) → counts count x ≡ false
+unfolding counts
+uncounted count x e = go (ltb 0 x) refl (leb x count) refl
+  where
+    go : (a : Bool) → ltb 0 x ≡ a → (b : Bool) → leb x count ≡ b → (ltb 0 x && leb x count) ≡ false
+    go false p b q = rw p
+    go true p false q = rw (p, q)
+    go true p true q = absurd (e (ltb-true 0 x p, leb-true x count q))
 
-  pub number-second : k ≡ 1 → y ≡ word_in steps i 1 → y % number_values ≡ get_or (numbers_at steps i) k 0
-  number-second e f = rw (e, f)
-
-  pub number-third : k ≡ 2 → y ≡ word_in steps i 2 → y / number_values ≡ get_or (numbers_at steps i) k 0
-  number-third e f = rw (e, f)
-
-  pub number-fourth : k ≡ 3 → y ≡ word_in steps i 2 → y % number_values ≡ get_or (numbers_at steps i) k 0
-  number-fourth e f = rw (e, f)
-
-pub number_past : (steps : List (List ℕ)) (i k : ℕ) → (k ≡ 0 → ⊥) → (k ≡ 1 → ⊥) → (k ≡ 2 → ⊥) → (k ≡ 3 → ⊥) → 0 ≡ get_or (numbers_at steps i) k 0
-number_past steps i k a b c d = let h : length (numbers_at steps i) ≤ k = omega arith in sym (get_or-eq_default (numbers_at steps i) 0 h)
+pub counted : (count x place : ℕ) → (x ≡ place + 1) × (place < count) → counts count x ≡ true
+unfolding counts
+counted count x place h = rw (lt-ltb 0 x (omega arith), le-leb x count (omega arith))
 
 -- ---- a reference
 
@@ -64,62 +62,31 @@ module _ (ns : List ℕ) (n mark row : ℕ) (few : n ≤ length ns) where
 
 -- ---- a step cited, by its first word
 
-module _ (w o owner : ℕ) (e : owner ≡ owner_of w) where
-  pub usable-shared : owner ≡ 0 → true ≡ (eqb (owner_of w) 0 || eqb (owner_of w) o)
-  usable-shared f = rw (eq-eqb (owner_of w) 0 (sym e ∙ f))
-
-  pub usable-own : (owner ≡ 0 → ⊥) → eqb owner o ≡ (eqb (owner_of w) 0 || eqb (owner_of w) o)
-  usable-own f = rw (ne_eqb (owner_of w) 0 (λ z. f (e ∙ z)), e)
-
 module _ (ns : List ℕ) (n m : ℕ) (steps : List (List ℕ)) (limit o x l r : ℕ) where
-  pub cited-zero : x ≡ 0 → false ≡ cited_by ns n m (steps_of steps) limit o x l r
-  unfolding cited_by counts
-  cited-zero e = rw (le-ltb 0 x (omega arith))
-
-  pub cited-late : (x ≡ 0 → ⊥) → limit ≤ x - 1 → false ≡ cited_by ns n m (steps_of steps) limit o x l r
-  unfolding cited_by counts
-  cited-late h i = rw (lt-ltb 0 x (omega arith), lt-leb x limit (omega arith))
+  pub cited-none : counts limit x ≡ false → false ≡ cited_by ns n m (steps_of steps) limit o x l r
+  unfolding cited_by
+  cited-none e = rw e
 
   -- a step that is there is judged by its owner and its sides
-  module _ (h : x ≡ 0 → ⊥) (i : x - 1 < limit) (j : limit ≤ length steps) (w : ℕ) (ew : w ≡ word_in steps (x - 1) 0) where
-    cited-there : cited_by ns n m (steps_of steps) limit o x l r ≡ used_by ns n m o (step_from w (word_in steps (x - 1) 1) (word_in steps (x - 1) 2)) l r
-    unfolding cited_by counts
-    cited-there = rw (lt-ltb 0 x (omega arith), le-leb x limit (omega arith), step-at steps (x - 1) (omega arith), ew)
+  module _ (place : ℕ) (h : (x ≡ place + 1) × (place < limit)) (j : limit ≤ length steps) (w : ℕ) (ew : w ≡ word_in steps place 0) where
+    before : x - 1 ≡ place
+    before = omega arith
 
     module _ (b : Bool) (eb : b ≡ (eqb (owner_of w) 0 || eqb (owner_of w) o)) where
       cited-used : cited_by ns n m (steps_of steps) limit o x l r ≡ (b && sides_by ns n m (left_ref w) (right_ref w) l r)
-      unfolding used_by step_from
-      cited-used = cited-there ∙ ap (λ (d : Bool). d && sides_by ns n m (left_ref w) (right_ref w) l r) (sym eb)
+      unfolding cited_by used_by step_from
+      cited-used = rw (counted limit x place h, before, step-at steps place (omega arith), ← ew, ← eb)
 
-      pub cited-owner : not b ≡ true → false ≡ cited_by ns n m (steps_of steps) limit o x l r
-      cited-owner f = sym (cited-used ∙ rw (not-true b f))
+      pub cited-owner : b ≡ false → false ≡ cited_by ns n m (steps_of steps) limit o x l r
+      cited-owner f = sym (cited-used ∙ rw f)
 
-      pub cited-left : (s : ℕ) → not b ≡ false → s ≡ side_of ns n m (left_ref w) → (s ≡ l → ⊥) → false ≡ cited_by ns n m (steps_of steps) limit o x l r
+      pub cited-left : (s : ℕ) → b ≡ true → s ≡ side_of ns n m (left_ref w) → (s ≡ l → ⊥) → false ≡ cited_by ns n m (steps_of steps) limit o x l r
       unfolding sides_by
-      cited-left s f e g = sym (cited-used ∙ rw (not-false b f, ← e, ne_eqb s l g))
+      cited-left s f e g = sym (cited-used ∙ rw (f, ← e, ne_eqb s l g))
 
-      pub cited-right : (s t : ℕ) → not b ≡ false → s ≡ side_of ns n m (left_ref w) → s ≡ l → t ≡ side_of ns n m (right_ref w)
+      pub cited-right : (s t : ℕ) → b ≡ true → s ≡ side_of ns n m (left_ref w) → s ≡ l → t ≡ side_of ns n m (right_ref w)
           → eqb t r ≡ cited_by ns n m (steps_of steps) limit o x l r
       unfolding sides_by
-      cited-right s t f e g k = sym (cited-used ∙ rw (not-false b f, ← e, eq-eqb s l g, ← k))
+      cited-right s t f e g k = sym (cited-used ∙ rw (f, ← e, eq-eqb s l g, ← k))
 
-pub ruleset mine = (
-  rules,
-  number-first,
-  number-second,
-  number-third,
-  number-fourth,
-  number_past,
-  below_in,
-  below_out,
-  side-row,
-  side-pattern,
-  side-none,
-  usable-shared,
-  usable-own,
-  cited-zero,
-  cited-late,
-  cited-owner,
-  cited-left,
-  cited-right,
-)
+pub ruleset mine = (rules, uncounted, below_in, below_out, side-row, side-pattern, side-none, cited-none, cited-owner, cited-left, cited-right)

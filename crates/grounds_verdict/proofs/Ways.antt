@@ -1,5 +1,5 @@
 -- The kinds of step by each way out of the code: a stated pair, two steps that meet, arguments one by one, a symbol over them.
---     mine    what the functions of `steps` for one kind leave to show
+--     mine    what the functions of `citing` leave to show, and `paired`
 -- Assumes nothing.
 use mathlib.Core.Bool.{Bool, true, false, not, ◌&&◌}
 use mathlib.Core.List.{List, [], ◌∷◌}
@@ -7,9 +7,8 @@ use mathlib.Core.Path.{◌≡◌, refl, ap, sym, ◌∙◌}
 use Prim.Native.Nat.{ℕ, zero, suc, ◌+◌, ◌-◌, ◌*◌, ◌≤◌, ◌<◌}
 use native.Mathlib.Omega.{arith}
 use lib.Dec.{eqb, ltb}
-use borrow.Author.Count.{below_more}
 use borrow.Author.Rules.{rules}
-use borrow.Author.Tests.{eq-eqb, ne_eqb, lt-ltb, le-ltb, le-leb, lt-leb, not-true, not-false}
+use borrow.Author.Tests.{eq-eqb, ne_eqb, lt-ltb, le-ltb, not-true}
 use lib.ListN.{length, get_or}
 use Rattle.meaning.specs.Grounds.{Step}
 use Rattle.meaning.specs.Checking.{counts, paired_by, side_of, cited_by, met_by, each_by, congruent_by}
@@ -23,7 +22,7 @@ use Rattle.grounds_numbers.specs.Keys.{Keyed}
 use Rattle.grounds_numbers.specs.Pairs.{pair_count, first_in, second_in, pairs_in}
 use Rattle.grounds_numbers.proofs.Pairing.{pairs-length, pairs-at}
 use Rattle.grounds_verdict.specs.Tests.{instances_in, numbers_at, cited_at, each_at, congruent_at}
-use Rattle.grounds_verdict.proofs.Numbers.{cited-zero, cited-late}
+use Rattle.grounds_verdict.proofs.Numbers.{counted, cited-none}
 
 pub and-off : (a b : Bool) → b ≡ false → (a && b) ≡ false
 and-off true b e = e
@@ -32,31 +31,32 @@ and-off false b e = refl
 -- ---- a stated pair
 
 module _ (pairs : List ℕ) (x l r : ℕ) where
-  pub paired-zero : x ≡ 0 → false ≡ paired_by (pairs_in pairs) x l r
-  unfolding paired_by counts
-  paired-zero e = rw (le-ltb 0 x (omega arith))
+  module _ (c : ℕ) (ec : c ≡ pair_count pairs) where
+    pub paired-none : counts c x ≡ false → false ≡ paired_by (pairs_in pairs) x l r
+    unfolding paired_by
+    paired-none e = rw (pairs-length pairs, ← ec, e)
 
-  module _ (c : ℕ) (ec : c ≡ pair_count pairs) (h : x ≡ 0 → ⊥) where
-    pub paired-late : c ≤ x - 1 → false ≡ paired_by (pairs_in pairs) x l r
-    unfolding paired_by counts
-    paired-late i = rw (lt-ltb 0 x (omega arith), lt-leb x (length (pairs_in pairs)) (omega (arith, pairs-length pairs)))
+    module _ (place : ℕ) (h : (x ≡ place + 1) × (place < c)) (s : ℕ) (es : s ≡ first_in pairs place) where
+      before : x - 1 ≡ place
+      before = omega arith
 
-    module _ (i : x - 1 < c) (s : ℕ) (es : s ≡ first_in pairs (x - 1)) where
-      paired-sides : paired_by (pairs_in pairs) x l r ≡ (eqb s l && eqb (second_in pairs (x - 1)) r)
-      unfolding paired_by counts
+      paired-sides : paired_by (pairs_in pairs) x l r ≡ (eqb s l && eqb (second_in pairs place) r)
+      unfolding paired_by
       paired-sides =
           rw (
-            lt-ltb 0 x (omega arith),
-            le-leb x (length (pairs_in pairs)) (omega (arith, pairs-length pairs)),
-            ap (λ (d : ℕ × ℕ). d.0) (pairs-at pairs (x - 1) (omega arith)),
-            ap (λ (d : ℕ × ℕ). d.1) (pairs-at pairs (x - 1) (omega arith)),
+            pairs-length pairs,
+            ← ec,
+            counted c x place h,
+            before,
+            ap (λ (d : ℕ × ℕ). d.0) (pairs-at pairs place (omega arith)),
+            ap (λ (d : ℕ × ℕ). d.1) (pairs-at pairs place (omega arith)),
             es,
           )
 
       pub paired-left : (s ≡ l → ⊥) → false ≡ paired_by (pairs_in pairs) x l r
       paired-left f = sym (paired-sides ∙ rw (ne_eqb s l f))
 
-      pub paired-right : (t : ℕ) → s ≡ l → t ≡ second_in pairs (x - 1) → eqb t r ≡ paired_by (pairs_in pairs) x l r
+      pub paired-right : (t : ℕ) → s ≡ l → t ≡ second_in pairs place → eqb t r ≡ paired_by (pairs_in pairs) x l r
       paired-right t f g = sym (paired-sides ∙ rw (eq-eqb s l f, ← g))
 
 -- ---- two steps that meet
@@ -68,38 +68,34 @@ module _ (ns : List ℕ) (n : ℕ) (few : n ≤ length ns) (steps : List (List �
   abbrev found : ℕ → ℕ → ℕ → Bool
   found z p q = cited_by ns n m (steps_of steps) limit o z p q
 
-  pub met-zero : x ≡ 0 → false ≡ met_by ns n (instances_in ns n) (steps_of steps) limit o x y l r
+  pub met-none : counts limit x ≡ false → false ≡ met_by ns n (instances_in ns n) (steps_of steps) limit o x y l r
   unfolding met_by
-  met-zero e = rw (← cited-zero ns n m steps limit o x l _ e)
+  met-none e = rw (← cited-none ns n m steps limit o x l _ e)
 
-  pub met-late : (x ≡ 0 → ⊥) → limit ≤ x - 1 → false ≡ met_by ns n (instances_in ns n) (steps_of steps) limit o x y l r
-  unfolding met_by
-  met-late h i = rw (← cited-late ns n m steps limit o x l _ h i)
-
-  module _ (w s : ℕ) (i : x - 1 < limit) (j : limit ≤ length steps) (ew : w ≡ word_in steps (x - 1) 0) (es : s ≡ side_of ns n (instances_in ns n) (right_ref w)) where
+  module _ (place w s : ℕ) (h : (x ≡ place + 1) × (place < limit)) (j : limit ≤ length steps) (ew : w ≡ word_in steps place 0)
+      (es : s ≡ side_of ns n (instances_in ns n) (right_ref w)) where
     all : n + m ≡ length ns
     all = omega arith
 
+    step : x - 1 ≡ place
+    step = omega arith
+
     met-middle : met_by ns n m (steps_of steps) limit o x y l r ≡ (found x l s && (ltb s (length ns) && found y s r))
     unfolding met_by step_from
-    met-middle = rw (step-at steps (x - 1) (omega arith), es, ew, all)
+    met-middle = rw (step, step-at steps place (omega arith), es, ew, all)
 
     pub met-nowhere : length ns ≤ s → false ≡ met_by ns n (instances_in ns n) (steps_of steps) limit o x y l r
     met-nowhere h = sym (met-middle ∙ and-off (found x l s) _ (rw (le-ltb s (length ns) h)))
 
     module _ (b : Bool) (eb : b ≡ cited_by ns n (instances_in ns n) (steps_of steps) limit o x l s) where
-      pub met-first : not b ≡ true → false ≡ met_by ns n (instances_in ns n) (steps_of steps) limit o x y l r
-      met-first g = sym (met-middle ∙ rw (← eb, not-true b g))
+      pub met-first : b ≡ false → false ≡ met_by ns n (instances_in ns n) (steps_of steps) limit o x y l r
+      met-first g = sym (met-middle ∙ rw (← eb, g))
 
-      pub met-both : (d : Bool) → s < length ns → not b ≡ false → d ≡ cited_by ns n (instances_in ns n) (steps_of steps) limit o y s r
+      pub met-both : (d : Bool) → s < length ns → b ≡ true → d ≡ cited_by ns n (instances_in ns n) (steps_of steps) limit o y s r
           → d ≡ met_by ns n (instances_in ns n) (steps_of steps) limit o x y l r
-      met-both d h g k = sym (met-middle ∙ rw (← eb, not-false b g, lt-ltb s (length ns) h, ← k))
+      met-both d h g k = sym (met-middle ∙ rw (← eb, g, lt-ltb s (length ns) h, ← k))
 
 -- ---- arguments one by one
-
-pub cited-as : (ns : List ℕ) (n : ℕ) (steps : List (List ℕ)) (limit o x l r u v w : ℕ) (b : Bool) → x ≡ u → l ≡ v → r ≡ w → b ≡ cited_at ns n steps limit o x l r
-    → b ≡ cited_at ns n steps limit o u v w
-cited-as ns n steps limit o x l r u v w b f g h e = rw (← f, ← g, ← h) e
 
 module _ (ns : List ℕ) (n m : ℕ) (steps : List Step) (limit o : ℕ) (xs : List ℕ) where
   abbrev at : ℕ → List ℕ → List ℕ → ℕ → Bool
@@ -141,9 +137,6 @@ pub record Cited (keys ns : List ℕ) (n : ℕ) (steps : List (List ℕ)) (i o l
   pub so : (j : ℕ) → j < k → cited_at ns n steps i o (get_or (numbers_at steps i) j 0) (arg_in keys l j) (arg_in keys r j) ≡ true
 
 module _ (keys ns : List ℕ) (n : ℕ) (steps : List (List ℕ)) (i o l r count k : ℕ) where
-  pub cited-start : Cited keys ns n steps i o l r count 0
-  cited-start = record { most = omega arith; so = λ j h. absurd (omega arith) }
-
   module _ (hl : l < row_count keys) (hr : r < row_count keys) (few : count ≤ arg_places) where
     abbrev L : List ℕ
     L = args_from keys (l * row_size + 2) count
@@ -165,9 +158,6 @@ module _ (keys ns : List ℕ) (n : ℕ) (steps : List (List ℕ)) (i o l r count
 
     module _ (b : Bool) (w : Cited keys ns n steps i o l r count k) (inside : k < count)
         (eb : b ≡ cited_at ns n steps i o (get_or (numbers_at steps i) k 0) (arg_in keys l k) (arg_in keys r k)) where
-      pub cited-next : not b ≡ false → Cited keys ns n steps i o l r count (k + 1)
-      cited-next e = record { most = omega arith; so = below_more _ _ w.so (sym eb ∙ not-false b e) }
-
       pub cited-stop : not b ≡ true → false ≡ each_at keys ns n steps i o l r count
       cited-stop e =
           sym (each_none ns n (instances_in ns n) (steps_of steps) i o (numbers_at steps i) 0 L R k (left-long ∙ sym right-long) (omega (arith, left-long))
@@ -182,15 +172,6 @@ module _ (keys ns : List ℕ) (n : ℕ) (steps : List (List ℕ)) (i o l r count
 -- ---- a symbol over arguments
 
 module _ (keys ns : List ℕ) (n : ℕ) (steps : List (List ℕ)) (i o l r : ℕ) (keyed : Keyed keys (length ns)) (hl : l < length ns) (hr : r < length ns) where
-  pub congruent-left : l < row_count keys
-  congruent-left = omega (arith, keyed.room)
-
-  pub congruent-right : r < row_count keys
-  congruent-right = omega (arith, keyed.room)
-
-  pub congruent-few : (count : ℕ) → count ≡ count_in keys l → count ≤ arg_places
-  congruent-few count e = omega (arith, keyed.few l hl)
-
   module _ (p q : ℕ) (ep : p ≡ symbol_in keys l) (eq : q ≡ symbol_in keys r) where
     pub congruent-symbols : (p ≡ q → ⊥) → false ≡ congruent_at keys ns n steps i o l r
     unfolding congruent_by
@@ -216,24 +197,10 @@ module _ (keys ns : List ℕ) (n : ℕ) (steps : List (List ℕ)) (i o l r : ℕ
 
 pub ruleset mine = (
   rules,
-  paired-zero,
-  paired-late,
+  paired-none,
   paired-left,
   paired-right,
-  met-zero,
-  met-late,
-  met-nowhere,
-  met-first,
-  met-both,
-  cited-as,
-  cited-start,
-  cited-next,
+  met-none,
   cited-stop,
   cited-done,
-  congruent-left,
-  congruent-right,
-  congruent-few,
-  congruent-symbols,
-  congruent-counts,
-  congruent-args,
 )

@@ -1,87 +1,67 @@
 // Whether each literal is concluded.
 ghost use Rattle.std.specs.Prelude.{◌≡◌, ◌≤◌, ◌<◌, length};
-ghost use Rattle.meaning.specs.Checking.{Ends};
-ghost use Rattle.runs.specs.Runs.{literal_count};
 ghost use Rattle.runs.specs.Limits.{most_literals};
-ghost use Rattle.grounds_verdict.specs.Tests.{differs_at, concluded_at};
+ghost use Rattle.runs.specs.Runs.{literal_count};
+ghost use Rattle.grounds_verdict.specs.Tests.{FirstFalse, cited_at, differs_at, concluded_at};
 
 use super::Conclusions;
-use super::sides::{cited, instance_number};
-use casts::{u64_of_u32, usize_of_u16};
+use super::citing::Citing;
+use super::steps::Grounds;
+use super::words::place_of;
 use grounds_numbers::pairs::{first_in, pair_count, second_in};
-use grounds_steps::WORDS;
-use runs::{left_in, literal_count, right_in, sign_in};
+use runs::{is_equal, left_in, literal_count, right_in};
 
-// Whether step x may be used by an owner and has the sides of a stated difference.
-fn differs(
-    pairs: &[u16],
-    steps: &[[u64; WORDS]],
-    owner: u64,
-    numbers: &[u16],
-    n: usize,
-    x: u64,
-    difference: usize,
-) -> bool
-    requires { n ≤ length numbers.now }
-    ensures { result ≡ differs_at pairs.now numbers.now n steps.now owner x difference }
-{
-    if difference == 0 {
-        return false;
+impl<'a> Grounds<'a> {
+    // Whether step x may be used by an owner and has the sides l and r.
+    fn cites(&self, owner: u64, x: u64, l: usize, r: usize) -> bool
+        ensures { result ≡ cited_at self.now.table.numbers.now self.now.table.rows self.now.steps.now (length self.now.steps.now) owner x l r }
+    {
+        let all = Citing {
+            table: self.table,
+            steps: self.steps,
+            limit: self.steps.len(),
+            owner,
+        };
+        all.cites(x, l, r)
     }
-    let place = difference - 1;
-    if pair_count(pairs) <= place {
-        return false;
-    }
-    let p = first_in(pairs, place);
-    let q = second_in(pairs, place);
-    cited(steps, steps.len(), owner, numbers, n, x, p, q)
-}
 
-// Whether literal j, from 0, is concluded: an equal one by a shared step.
-fn concluded(
-    literals: &[u16],
-    d: Conclusions,
-    pairs: &[u16],
-    steps: &[[u64; WORDS]],
-    numbers: &[u16],
-    n: usize,
-    j: usize,
-) -> bool
-    requires n_in_bounds { n ≤ length numbers.now }
-    requires j_bound { j < literal_count literals.now }
-    requires literals_bound { literal_count literals.now ≤ most_literals }
-    ensures { result ≡ concluded_at literals.now d pairs.now numbers.now n steps.now j }
-{
-    let x = u64_of_u32(d.firsts[j]);
-    if sign_in(literals, j) == 6 {
-        let l = instance_number(numbers, n, left_in(literals, j));
-        let r = instance_number(numbers, n, right_in(literals, j));
-        return cited(steps, steps.len(), 0, numbers, n, x, l, r);
+    // Whether step x may be used by an owner and has the sides of a stated difference.
+    fn differs(&self, owner: u64, x: u64, difference: u64) -> bool
+        ensures { result ≡ differs_at self.now.pairs.now self.now.table.numbers.now self.now.table.rows self.now.steps.now owner x difference }
+    {
+        let Some(place) = place_of(difference, pair_count(self.pairs)) else {
+            return false;
+        };
+        let p = first_in(self.pairs, place);
+        let q = second_in(self.pairs, place);
+        self.cites(owner, x, p, q)
     }
-    let difference = usize_of_u16(d.differences[j]);
-    differs(pairs, steps, (j + 1) as u64, numbers, n, x, difference)
-}
 
-// The first literal that is not concluded, or how many there are.
-pub(crate) fn first_open(
-    literals: &[u16],
-    d: Conclusions,
-    pairs: &[u16],
-    steps: &[[u64; WORDS]],
-    numbers: &[u16],
-    n: usize,
-) -> usize
-    requires n_in_bounds { n ≤ length numbers.now }
-    requires literals_bound { literal_count literals.now ≤ most_literals }
-    ensures { Ends (concluded_at literals.now d pairs.now numbers.now n steps.now) (literal_count literals.now) result }
-{
-    let m = literal_count(literals);
-    let mut j: usize = 0;
-    while j < m {
-        if !concluded(literals, d, pairs, steps, numbers, n, j) {
-            return j;
+    // Whether literal j, from 0, is concluded: an equal one by a shared step.
+    fn concluded(&self, d: &Conclusions, j: usize) -> bool
+        requires j_bound { j < literal_count self.now.literals.now }
+        requires literals_bound { literal_count self.now.literals.now ≤ most_literals }
+        ensures { result ≡ concluded_at self.now.literals.now d.now self.now.pairs.now self.now.table.numbers.now self.now.table.rows self.now.steps.now j }
+    {
+        let x = u64::from(d.firsts[j]);
+        if !is_equal(self.literals, j) {
+            return self.differs(j as u64 + 1, x, u64::from(d.differences[j]));
         }
-        j += 1;
+        let l = self.table.instance(left_in(self.literals, j));
+        let r = self.table.instance(right_in(self.literals, j));
+        self.cites(0, x, l, r)
     }
-    m
+
+    // The first literal that is not concluded.
+    pub(crate) fn first_open(&self, d: &Conclusions) -> Option<usize>
+        requires { literal_count self.now.literals.now ≤ most_literals }
+        ensures { FirstFalse (concluded_at self.now.literals.now d.now self.now.pairs.now self.now.table.numbers.now self.now.table.rows self.now.steps.now) (literal_count self.now.literals.now) result }
+    {
+        for j in 0..literal_count(self.literals) {
+            if !self.concluded(d, j) {
+                return Some(j);
+            }
+        }
+        None
+    }
 }

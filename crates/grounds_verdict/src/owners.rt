@@ -1,53 +1,38 @@
 // The owners of steps: all literals together, or one unequal literal, which adds its equation.
-ghost use Rattle.std.specs.Prelude.{◌≡◌, ◌≤◌, length};
+ghost use Rattle.std.specs.Prelude.{◌&&◌, ◌≡◌, ◌≢◌, ◌+◌, ◌<◌, MatchOption, false};
 ghost use Rattle.meaning.specs.Checking.{owner_by};
-ghost use Rattle.runs.specs.Runs.{literals_of};
-ghost use Rattle.grounds_verdict.specs.Tests.{added_at};
+ghost use Rattle.runs.specs.Runs.{literal_count, sign_in, literals_of};
+ghost use Rattle.grounds_verdict.specs.Tests.{owned_at, added_at};
 
-use super::sides::instance_number;
-use runs::{left_in, literal_count, right_in, sign_in};
+use super::table::Table;
+use super::words::place_of;
+use runs::{is_equal, left_in, literal_count, right_in};
+
+// The place of the unequal literal that an owner is.
+fn owned(literals: &[u16], owner: u64) -> Option<usize>
+    ensures { MatchOption result (owned_at literals.now owner ≡ false) (λ place. (owner ≡ place + 1) × (place < literal_count literals.now) × (sign_in literals.now place ≢ 6)) }
+{
+    let place = place_of(owner, literal_count(literals))?;
+    if is_equal(literals, place) {
+        None
+    } else {
+        Some(place)
+    }
+}
 
 // Whether an owner is 0, or the number of an unequal literal.
 pub(crate) fn owner_there(literals: &[u16], owner: u64) -> bool
     ensures { result ≡ owner_by (literals_of literals.now) owner }
 {
-    if owner == 0 {
-        return true;
-    }
-    let place = (owner - 1) as usize;
-    if literal_count(literals) <= place {
-        return false;
-    }
-    if sign_in(literals, place) == 6 {
-        return false;
-    }
-    true
+    owner == 0 || owned(literals, owner).is_some()
 }
 
 // Whether the owner is an unequal literal, and its instances are l and r.
-pub(crate) fn added(
-    literals: &[u16],
-    numbers: &[u16],
-    n: usize,
-    owner: u64,
-    l: usize,
-    r: usize,
-) -> bool
-    requires { n ≤ length numbers.now }
-    ensures { result ≡ added_at literals.now numbers.now n owner l r }
+pub(crate) fn added(table: &Table, literals: &[u16], owner: u64, l: usize, r: usize) -> bool
+    ensures { result ≡ added_at literals.now table.now.numbers.now table.now.rows owner l r }
 {
-    if owner == 0 {
+    let Some(place) = owned(literals, owner) else {
         return false;
-    }
-    let place = (owner - 1) as usize;
-    if literal_count(literals) <= place {
-        return false;
-    }
-    if sign_in(literals, place) == 6 {
-        return false;
-    }
-    if instance_number(numbers, n, left_in(literals, place)) != l {
-        return false;
-    }
-    instance_number(numbers, n, right_in(literals, place)) == r
+    };
+    table.instance(left_in(literals, place)) == l && table.instance(right_in(literals, place)) == r
 }

@@ -13,14 +13,16 @@ use native.Mathlib.Omega.{arith}
 use lib.Dec.{eqb}
 use lib.ListN.{length, get_or, set, take, replicate, length-set, length-take, length-replicate}
 use borrow.Author.Rules.{rules}
-use borrow.Author.Tests.{eq-eqb, ne_eqb, eqb-true, eqb-false, lt-ltb, le-ltb}
+use borrow.Author.Tests.{eq-eqb, ne_eqb, lt-ltb, le-ltb}
 use Rattle.grounds_steps.specs.Steps.{words_of}
 use Rattle.grounds_laws.specs.Limits.{draft_size, number_run}
 use Rattle.grounds_laws.specs.Draft.{count_in, cell_in, owner_at}
 use Rattle.grounds_laws.specs.Classes.{upto}
 use Rattle.grounds_batches.specs.Marking.{kept, marked_for}
-use Rattle.grounds_batches.specs.Sending.{word_in, numbers_word, Out, out_of, forget_one, forgotten, written, send_one, sent, resent, batch}
-use Rattle.grounds_words.specs.Emitting.{SidesAt, NumbersAt, Short, Reaches, SendsOne, Sends, SendsAll, Batched, Sendable}
+use Rattle.grounds_batches.specs.Sending.{word_in, numbers_word, Out, out_of, forget_one, forgotten, written, send_one, sent, resent, batch, Small}
+use Rattle.grounds_words.specs.declared.Out.{Out as Held}
+use Rattle.grounds_words.specs.Emitting.{Reaches, Batched, Sendable}
+use Rattle.grounds_words.specs.Holding.{out_in, Keeps, Becomes}
 
 -- ---- a step
 
@@ -33,71 +35,34 @@ module _ (from owner i : ℕ) where
   unfolding owner_at
   owner-own h = rw (le-ltb i from h, owner_at)
 
-pub sides-at : (cells : List ℕ) (rows owner p : ℕ) {kind x y r : ℕ} → kind ≡ get_or cells (p + 1) 0 → kind < 65536 → x ≡ get_or cells (p + 2) 0 → x < 65536 → y ≡ get_or cells (p + 3) 0
-    → y < 65536
-    → r ≡ word_in rows owner kind x y
-    → SidesAt cells rows owner p r
-sides-at cells rows owner p e l f m g n w =
-    record { word = rw (sym e, sym f, sym g) w; kind = omega arith; left = omega arith; right = omega arith }
-
-pub sides-kind : (cells : List ℕ) (p : ℕ) {kind : ℕ} → kind ≡ get_or cells (p + 1) 0 → get_or cells (p + 1) 0 < 256 → kind < 256
-sides-kind cells p e h = omega arith
-
-pub numbers-at : (cells news : List ℕ) (k p q : ℕ) {kind a b r : ℕ} → kind ≡ get_or cells k 0 → a ≡ get_or cells p 0 → a < 65536 → b ≡ get_or cells q 0 → b < 65536
-    → r ≡ numbers_word news kind a b
-    → NumbersAt cells news k p q r
-numbers-at cells news k p q e f m g n w = record { word = rw (sym e, sym f, sym g) w; first = omega arith; second = omega arith }
-
-module _ (cells marks news : List ℕ) (i : ℕ) (r : Reaches cells marks news i) where
-  pub reaches-places : i * draft_size + draft_size < length cells
-  reaches-places = r.places
-
-  pub reaches-mark : i + 1 < length marks
-  reaches-mark = r.mark
-
-  pub reaches-number : i + 1 < length news
-  reaches-number = r.number
-
-module _ (rows from owner : ℕ) (cells marks news : List ℕ) (i next : ℕ) {o x y z : ℕ} (a : o ≡ owner_at from owner i) (s : SidesAt cells rows o (i * draft_size) x)
-    (t : NumbersAt cells news (i * draft_size + 1) (i * draft_size + 4) (i * draft_size + 5) y)
-    (u : NumbersAt cells news (i * draft_size + 1) (i * draft_size + 6) (i * draft_size + 7) z) (steps : List (List ℕ)) where
-  short : Short cells i
-  short zero h l = absurd (omega arith)
-  short (suc zero) h l = s.kind
-  short (suc (suc zero)) h l = s.left
-  short (suc (suc (suc zero))) h l = s.right
-  short (suc (suc (suc (suc zero)))) h l = t.first
-  short (suc (suc (suc (suc (suc zero))))) h l = t.second
-  short (suc (suc (suc (suc (suc (suc zero)))))) h l = u.first
-  short (suc (suc (suc (suc (suc (suc (suc zero))))))) h l = u.second
-  short (suc (suc (suc (suc (suc (suc (suc (suc j)))))))) h l = absurd (omega arith)
-
+module _ (rows from owner : ℕ) (cells marks : List ℕ) (i : ℕ) (before : Held) where
   is-kept : (get_or marks (i + 1) 0 ≡ 0 → ⊥) → kept marks (i + 1) ≡ true
   unfolding kept
   is-kept d = rw (ne_eqb (get_or marks (i + 1) 0) 0 d)
 
-  pub send-none : get_or marks (i + 1) 0 ≡ 0 → SendsOne rows from owner cells marks i (out_of news next steps) (out_of news next steps)
+  pub send-none : get_or marks (i + 1) 0 ≡ 0 → Becomes before before (send_one rows from owner cells marks i (out_in before))
   unfolding send_one kept
-  send-none e = let k : kept marks (i + 1) ≡ false = rw (eq-eqb (get_or marks (i + 1) 0) 0 e) in record { out = rw (k, send_one); short = short }
+  send-none e =
+      let k : kept marks (i + 1) ≡ false = rw (eq-eqb (get_or marks (i + 1) 0) 0 e) in
+      record { so = rw (k, send_one); keeps = record { words = refl; numbers = refl } }
 
-  pub send-old : (get_or marks (i + 1) 0 ≡ 0 → ⊥) → (get_or news (i + 1) 0 ≡ 0 → ⊥)
-      → SendsOne rows from owner cells marks i (out_of news next steps) (out_of news next steps)
+  pub send-old : (get_or marks (i + 1) 0 ≡ 0 → ⊥) → (get_or before.news.now (i + 1) 0 ≡ 0 → ⊥)
+      → Becomes before before (send_one rows from owner cells marks i (out_in before))
   unfolding send_one
-  send-old d e = record { out = rw (is-kept d, ne_eqb (get_or news (i + 1) 0) 0 e, send_one); short = short }
+  send-old d e = record { so = rw (is-kept d, ne_eqb (get_or before.news.now (i + 1) 0) 0 e, send_one); keeps = record { words = refl; numbers = refl } }
 
-  pub send-new : {after : Out} → (get_or marks (i + 1) 0 ≡ 0 → ⊥) → get_or news (i + 1) 0 ≡ 0
-      → after ≡ out_of (set news (i + 1) (next + 1)) (next + 1) (set steps next (words_of x y z))
-      → SendsOne rows from owner cells marks i (out_of news next steps) after
+  pub send-new : {after : Held} {x y z : ℕ} → (get_or marks (i + 1) 0 ≡ 0 → ⊥) → get_or before.news.now (i + 1) 0 ≡ 0
+      → x ≡ word_in rows (owner_at from owner i) (cell_in cells i 1) (cell_in cells i 2) (cell_in cells i 3)
+      → y ≡ numbers_word before.news.now (cell_in cells i 1) (cell_in cells i 4) (cell_in cells i 5)
+      → z ≡ numbers_word before.news.now (cell_in cells i 1) (cell_in cells i 6) (cell_in cells i 7)
+      → Becomes before after (out_of (set before.news.now (i + 1) (before.next + 1)) (before.next + 1) (set before.steps.now before.next (words_of x y z)))
+      → Becomes before after (send_one rows from owner cells marks i (out_in before))
   unfolding send_one written
-  send-new d e h =
+  send-new d e ex ey ez h =
       record {
-        out = h ∙ rw (is-kept d, eq-eqb (get_or news (i + 1) 0) 0 e, send_one, sym a, sym s.word, sym t.word, sym u.word);
-        short = short;
+        so = h.so ∙ rw (is-kept d, eq-eqb (get_or before.news.now (i + 1) 0) 0 e, send_one, sym ex, sym ey, sym ez);
+        keeps = h.keeps;
       }
-
-pub step-written : (news : List ℕ) (next : ℕ) (steps : List (List ℕ)) (words : List ℕ) {steps' : List (List ℕ)} → steps' ≡ set steps next words
-    → out_of news (next + 1) steps' ≡ out_of news (next + 1) (set steps next words)
-step-written news next steps words e = ap (out_of news (next + 1)) e
 
 -- ---- all steps
 
@@ -105,68 +70,55 @@ step-written news next steps words e = ap (out_of news (next + 1)) e
 record Kept (before after : Out) : Type 0 where
   most : after.next ≤ before.next + 1
   numbers : length after.news ≡ length before.news
-  long : length after.steps ≡ length before.steps
 
 one_kept : (rows from owner : ℕ) (cells marks : List ℕ) (i : ℕ) (o : Out) → Kept o (send_one rows from owner cells marks i o)
 unfolding send_one written
 one_kept rows from owner cells marks i o = go (kept marks (i + 1)) refl (eqb (get_or o.news (i + 1) 0) 0) refl
   where
     go : (b : Bool) → kept marks (i + 1) ≡ b → (d : Bool) → eqb (get_or o.news (i + 1) 0) 0 ≡ d → Kept o (send_one rows from owner cells marks i o)
-    go true e true f = rw (e, f, send_one) (record { most = omega arith; numbers = length-set o.news _ _; long = length-set o.steps _ _ })
-    go true e false f = rw (e, f, send_one) (record { most = omega arith; numbers = refl; long = refl })
-    go false e d f = rw (e, send_one) (record { most = omega arith; numbers = refl; long = refl })
+    go true e true f = rw (e, f, send_one) (record { most = omega arith; numbers = length-set o.news _ _ })
+    go true e false f = rw (e, f, send_one) (record { most = omega arith; numbers = refl })
+    go false e d f = rw (e, send_one) (record { most = omega arith; numbers = refl })
 
-pub record Through (rows from owner : ℕ) (cells marks : List ℕ) (n : ℕ) (start after : Out) (i : ℕ) : Type 0 where
-  pub so : Sends rows from owner cells marks i start after
+pub record Through (rows from owner : ℕ) (cells marks : List ℕ) (n : ℕ) (before after : Held) (i : ℕ) : Type 0 where
+  pub so : out_in after ≡ sent rows from owner cells marks i (out_in before)
   pub reach : i ≤ n
-  pub most : after.next ≤ start.next + i
-  pub numbers : length after.news ≡ length start.news
-  pub long : length after.steps ≡ length start.steps
+  pub most : after.next ≤ before.next + i
+  pub numbers : length after.news.now ≡ length before.news.now
+  pub keeps : Keeps before after
 
-pub through-start : (rows from owner : ℕ) (cells marks : List ℕ) (n : ℕ) (o : Out) → Through rows from owner cells marks n o o 0
+pub through-start : (rows from owner : ℕ) (cells marks : List ℕ) (n : ℕ) (o : Held) → Through rows from owner cells marks n o o 0
 unfolding sent upto
 through-start rows from owner cells marks n o =
-    record { so = record { out = refl; short = λ i h. absurd (omega arith) }; reach = omega arith; most = omega arith; numbers = refl; long = refl }
+    record { so = refl; reach = omega arith; most = omega arith; numbers = refl; keeps = record { words = refl; numbers = refl } }
 
-module _ {rows from owner : ℕ} {cells marks : List ℕ} {n : ℕ} {start after : Out} {i : ℕ} (w : Through rows from owner cells marks n start after i) where
-  pub through-next : {after' : Out} → i < n → SendsOne rows from owner cells marks i after after' → Through rows from owner cells marks n start after' (i + 1)
+module _ {rows from owner : ℕ} {cells marks : List ℕ} {n : ℕ} {before after : Held} {i : ℕ} (w : Through rows from owner cells marks n before after i) where
+  pub through-next : {after' : Held} → i < n → Becomes after after' (send_one rows from owner cells marks i (out_in after))
+      → Through rows from owner cells marks n before after' (i + 1)
   unfolding sent upto
   through-next {after'} h e =
       record {
-        so = record { out = rw (add-one, sym w.so.out) e.out; short = λ j l. go j l (eqb j i) refl };
+        so = rw (add-one, sym w.so) e.so;
         reach = omega arith;
         most = omega (arith, kept'.most, w.most);
         numbers = kept'.numbers ∙ w.numbers;
-        long = kept'.long ∙ w.long;
+        keeps = record { words = e.keeps.words ∙ w.keeps.words; numbers = e.keeps.numbers ∙ w.keeps.numbers };
       }
     where
-      kept' : Kept after after'
-      kept' = subst (Kept after) (sym e.out) (one_kept rows from owner cells marks i after)
+      kept' : Kept (out_in after) (out_in after')
+      kept' = subst (Kept (out_in after)) (sym e.so) (one_kept rows from owner cells marks i (out_in after))
 
-      go : (j : ℕ) → j < i + 1 → (b : Bool) → eqb j i ≡ b → Short cells j
-      go j l true q = subst (Short cells) (sym (eqb-true j i q)) e.short
-      go j l false q = w.so.short j (omega (arith, eqb-false j i q))
+  pub through-done : n ≡ count_in cells → n ≤ i → Becomes before after (sent rows from owner cells marks (count_in cells) (out_in before))
+  through-done e h =
+      let z : i ≡ count_in cells = omega (arith, w.reach) in
+      record { so = w.so ∙ ap (λ (m : ℕ). sent rows from owner cells marks m (out_in before)) z; keeps = w.keeps }
 
-  pub through-done : n ≡ count_in cells → n ≤ i → SendsAll rows from owner cells marks start after
-  through-done e h = let z : i ≡ count_in cells = omega (arith, w.reach) in subst (λ (m : ℕ). Sends rows from owner cells marks m start after) z w.so
-
--- what a turn asks
-module _ {rows from owner : ℕ} {cells marks : List ℕ} {n : ℕ} {news₀ : List ℕ} {next₀ : ℕ} {steps₀ : List (List ℕ)} {news : List ℕ} {next : ℕ} {steps : List (List ℕ)} {i : ℕ}
-    (w : Through rows from owner cells marks n (out_of news₀ next₀ steps₀) (out_of news next steps) i) where
-  pub numbers-long : length news ≡ length news₀
-  numbers-long = w.numbers
-
-  pub steps-long : length steps ≡ length steps₀
-  steps-long = w.long
-
-  module _ (e : n ≡ count_in cells) (l : i < n) (a : Sendable cells news₀ next₀) where
-    pub send-reaches : count_in cells < length marks → Reaches cells marks news i
+  -- what a turn asks
+  module _ (e : n ≡ count_in cells) (l : i < n) (a : Sendable cells before.news.now before.next) where
+    pub send-reaches : count_in cells < length marks → Reaches cells marks after.news.now i
     send-reaches h = record { places = omega (arith, a.places); mark = omega arith; number = omega (arith, a.numbers, w.numbers) }
 
-    pub send-kind : cell_in cells i 1 < 256
-    send-kind = a.kinded.kinds i (omega arith)
-
-    pub send-few : next + 1 < 4294967296
+    pub send-few : after.next + 1 < 4294967296
     send-few = omega (arith, a.few, w.most)
 
 -- ---- new numbers that are forgotten
@@ -249,34 +201,28 @@ module _ (cells news : List ℕ) (next : ℕ) (a : Sendable cells news next) whe
 pub marks-all : (cells marks after : List ℕ) → marks ≡ replicate (count_in cells + 1) 0 → length after ≡ length marks → count_in cells < length after
 marks-all cells marks after e l = omega (arith, ap length e, length-replicate {A = ℕ} (count_in cells + 1) 0)
 
-pub batch-all : (rows from owner : ℕ) (cells : List ℕ) (s : ℕ) (news : List ℕ) (next : ℕ) (steps : List (List ℕ)) {cleared marks : List ℕ} {after : Out} → cleared ≡ forgotten from news
+pub batch-all : (rows from owner : ℕ) (cells : List ℕ) (s : ℕ) (before : Held) {mid after : Held} {marks : List ℕ}
+    → Becomes mid after (sent rows from owner cells marks (count_in cells) (out_in mid))
+    → mid.news.now ≡ forgotten from before.news.now
+    → mid.steps.now ≡ before.steps.now
+    → mid.next ≡ before.next
     → marks ≡ marked_for cells s
-    → SendsAll rows from owner cells marks (out_of cleared next steps) after
-    → Batched rows from owner cells s (out_of news next steps) after
+    → Small cells
+    → Batched rows from owner cells s (out_in before) (out_in after)
 unfolding batch resent
-batch-all rows from owner cells s news next steps e f w = record { out = rw (sym e, sym f) w.out; small = record { places = w.short } }
+batch-all rows from owner cells s before w e f g h l = record { out = w.so ∙ rw (e, f, g, h); small = l }
 
 pub ruleset mine = (
   rules,
   owner-shared,
   owner-own,
-  sides-at,
-  sides-kind,
-  numbers-at,
-  reaches-places,
-  reaches-mark,
-  reaches-number,
   send-none,
   send-old,
   send-new,
-  step-written,
   through-start,
   through-next,
   through-done,
-  numbers-long,
-  steps-long,
   send-reaches,
-  send-kind,
   send-few,
   clearing-start,
   clearing-next,

@@ -5,29 +5,26 @@ use mathlib.Core.List.{List}
 use mathlib.Core.Path.{◌≡◌, ap, sym, ◌∙◌, subst}
 use Prim.Native.Nat.{ℕ, ◌+◌, ◌-◌, ◌*◌, ◌≤◌, ◌<◌}
 use native.Mathlib.Omega.{arith}
-use lib.ListN.{length, get_or, get_or-eq_default}
+use lib.ListN.{get_or}
 use borrow.Author.Rules.{rules}
 use borrow.Author.Tests.{lt-ltb, le-ltb, eq-eqb, ne_eqb}
 use Rattle.grounds_laws.specs.Draft.{ref_of}
 use Rattle.grounds_batches.specs.Sending.{new_of, new_in, word_in}
 use Rattle.grounds_words.specs.Emitting.{MarkOf, RowOf}
 
-module _ (news : List ℕ) (r : ℕ) {i : ℕ} (e : i ≡ r) where
-  pub new_none : i ≡ 0 → 0 ≡ new_of news r
+module _ (news : List ℕ) (r : ℕ) where
+  pub new_none : r ≡ 0 → 0 ≡ new_of news r
   unfolding new_of
-  new_none z = rw (eq-eqb r 0 (sym e ∙ z), new_of)
+  new_none z = rw (eq-eqb r 0 z, new_of)
 
-  pub new-at : (i ≡ 0 → ⊥) → get_or news i 0 ≡ new_of news r
+  pub new-at : (r ≡ 0 → ⊥) → {q : ℕ} → q ≡ get_or news r 0 → q ≡ new_of news r
   unfolding new_of
-  new-at d = rw (ne_eqb r 0 (λ z. d (e ∙ z)), new_of) (ap (λ (x : ℕ). get_or news x 0) e)
-
-  pub new-past : (i ≡ 0 → ⊥) → length news ≤ i → 0 ≡ new_of news r
-  new-past d h = sym (get_or-eq_default news 0 h) ∙ new-at d
+  new-at d e = rw (ne_eqb r 0 d, new_of) e
 
 module _ (news : List ℕ) (kind r : ℕ) where
-  pub new-plain : kind ≤ 2 → r ≡ new_in news kind r
+  pub new-plain : kind ≤ 2 → {q : ℕ} → q ≡ r → q ≡ new_in news kind r
   unfolding new_in
-  new-plain h = rw (le-ltb 2 kind h, new_in)
+  new-plain h e = rw (le-ltb 2 kind h, new_in) e
 
   pub new-cites : {q : ℕ} → 2 < kind → q ≡ new_of news r → q ≡ new_in news kind r
   unfolding new_in
@@ -58,7 +55,6 @@ pub ruleset mine = (
   rules,
   new_none,
   new-at,
-  new-past,
   new-plain,
   new-cites,
   mark-context,

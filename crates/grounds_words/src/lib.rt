@@ -3,137 +3,83 @@
 
 pub mod words;
 
-ghost use Rattle.std.specs.Prelude.{◌≡◌, ◌+◌, ◌*◌, ◌<◌, length, get_or, set, replicate};
+ghost use Rattle.std.specs.Prelude.{◌≡◌, ◌+◌, ◌*◌, ◌≤◌, ◌<◌, length, set};
 ghost use Rattle.grounds_steps.specs.Steps.{words_of};
+ghost use Rattle.grounds_laws.specs.Limits.{draft_size};
 ghost use Rattle.grounds_laws.specs.Draft.{count_in, cell_in, owner_at};
-ghost use Rattle.grounds_batches.specs.Sending.{out_of, forgotten};
-ghost use Rattle.grounds_words.specs.Emitting.{SidesAt, NumbersAt, Reaches, SendsOne, SendsAll, Sendable, Batched};
+ghost use Rattle.grounds_batches.specs.Sending.{new_of, word_in, numbers_word, out_of, send_one, sent, forgotten, Small};
+ghost use Rattle.grounds_words.specs.Emitting.{Reaches, Sendable, Batched};
+ghost use Rattle.grounds_words.specs.Holding.{out_in, Keeps, Becomes};
 
-use casts::usize_of_u16;
 use grounds_laws::{DRAFT, NUMBER_RUN};
 use grounds_marks::mark;
 use grounds_steps::{WORDS, put_step};
-use words::{numbers_word, sides_word};
+use words::{new_of, numbers_word, sides_word};
 
-// A number, with what its type says.
-fn held(x: u16) -> u16
-    ensures { (result ≡ x) × (result < 65536) }
-{
-    x
+// A column of steps over so many context rows: the first steps are shared, and the others an owner's.
+#[derive(Clone, Copy)]
+pub struct Column<'a> {
+    pub cells: &'a [u16],
+    pub rows: usize,
+    pub from: usize,
+    pub owner: u8,
 }
 
-// The number at a place of a column.
-fn cell(cells: &[u16], p: usize) -> u16
-    requires { p < length cells.now }
-    ensures { (result ≡ get_or cells.now p 0) × (result < 65536) }
-{
-    held(cells[p])
+// The words of steps, of which so many are written, and the new numbers of a column's steps.
+#[derive(Drop)]
+pub struct Out<'a> {
+    pub steps: &'a mut [[u64; WORDS]],
+    pub news: &'a mut [u32],
+    pub next: usize,
 }
 
-// 0 for a shared step.
-fn owner_at(from: usize, owner: u8, i: usize) -> u8
-    ensures { result ≡ owner_at from owner i }
-{
-    if i < from { 0 } else { owner }
-}
-
-// The word of the sides of an owner's step, from its three places after p.
-fn sides_at(cells: &[u16], rows: usize, owner: u8, p: usize) -> u64
-    requires p_in_bounds { p + 3 < length cells.now }
-    requires p_bound { get_or cells.now (p + 1) 0 < 256 }
-    ensures { SidesAt cells.now rows owner p result }
-{
-    let kind = cell(cells, p + 1);
-    let x = cell(cells, p + 2);
-    let y = cell(cells, p + 3);
-    sides_word(rows, owner, kind, x, y)
-}
-
-// The word of two numbers of a step, by the places of its kind and of the numbers.
-fn numbers_at(cells: &[u16], news: &[u32], k: usize, p: usize, q: usize) -> u64
-    requires k_in_bounds { k < length cells.now }
-    requires p_in_bounds { p < length cells.now }
-    requires q_in_bounds { q < length cells.now }
-    ensures { NumbersAt cells.now news.now k p q result }
-{
-    let kind = cell(cells, k);
-    let a = cell(cells, p);
-    let b = cell(cells, q);
-    numbers_word(news, kind, a, b)
-}
-
-// The words of step i, counted from 0, and its new number; how many are written.
-fn write_step(
-    steps: &mut [[u64; WORDS]],
-    news: &mut [u32],
-    i: usize,
-    next: usize,
-    x: u64,
-    y: u64,
-    z: u64,
-) -> usize
-    requires i_in_bounds { i + 1 < length news.old }
-    requires next_bound { next + 1 < 4294967296 }
-    ensures { out_of news.new result steps.new ≡ out_of (set news.old (i + 1) (next + 1)) (next + 1) (set steps.old next (words_of x y z)) }
-{
-    put_step(steps, next, x, y, z);
-    news[i + 1] = (next + 1) as u32;
-    next + 1
-}
-
-// Step i, counted from 0, where it is marked and has no new number; how many are written.
-fn send_one(
-    steps: &mut [[u64; WORDS]],
-    news: &mut [u32],
-    cells: &[u16],
-    marks: &[u16],
-    rows: usize,
-    from: usize,
-    owner: u8,
-    i: usize,
-    next: usize,
-) -> usize
-    requires reaches { Reaches cells.now marks.now news.old i }
-    requires i_bound { cell_in cells.now i 1 < 256 }
-    requires next_bound { next + 1 < 4294967296 }
-    ensures { SendsOne rows from owner cells.now marks.now i (out_of news.old next steps.old) (out_of news.new result steps.new) }
-{
-    let p = i * DRAFT;
-    let x = sides_at(cells, rows, owner_at(from, owner, i), p);
-    let y = numbers_at(cells, news, p + 1, p + 4, p + 5);
-    let z = numbers_at(cells, news, p + 1, p + 6, p + 7);
-    if marks[i + 1] == 0 {
-        return next;
+impl<'a> Column<'a> {
+    // Whose step i is, counted from 0: 0 for a shared one.
+    fn owner_at(self, i: usize) -> u8
+        ensures { result ≡ owner_at self.entry.from self.entry.owner i }
+    {
+        if i < self.from { 0 } else { self.owner }
     }
-    if news[i + 1] != 0 {
-        return next;
+
+    // The word of the owner, the kind and the sides of step i.
+    fn sides(self, i: usize) -> u64
+        requires places { i * draft_size + draft_size < length self.cells.now }
+        requires kind { cell_in self.cells.now i 1 < 256 }
+        ensures { result ≡ word_in self.entry.rows (owner_at self.entry.from self.entry.owner i) (cell_in self.entry.cells.now i 1) (cell_in self.entry.cells.now i 2) (cell_in self.entry.cells.now i 3) }
+    {
+        let p = i * DRAFT;
+        sides_word(
+            self.rows,
+            self.owner_at(i),
+            self.cells[p + 1],
+            self.cells[p + 2],
+            self.cells[p + 3],
+        )
     }
-    write_step(steps, news, i, next, x, y, z)
+
+    // The word of two numbers of step i, which stand at places k and k + 1.
+    fn numbers(self, news: &[u32], i: usize, k: usize) -> u64
+        requires places { i * draft_size + draft_size < length self.cells.now }
+        requires k_bound { k + 1 ≤ draft_size }
+        ensures { result ≡ numbers_word news.now (cell_in self.entry.cells.now i 1) (cell_in self.entry.cells.now i k) (cell_in self.entry.cells.now i (k + 1)) }
+    {
+        let p = i * DRAFT;
+        numbers_word(
+            news,
+            self.cells[p + 1],
+            self.cells[p + k],
+            self.cells[p + (k + 1)],
+        )
+    }
 }
 
-// The steps that are marked and have no new number, in order.
-fn send(
-    steps: &mut [[u64; WORDS]],
-    news: &mut [u32],
-    cells: &[u16],
-    marks: &[u16],
-    rows: usize,
-    from: usize,
-    owner: u8,
-    next: usize,
-) -> usize
-    requires sendable { Sendable cells.now news.old next }
-    requires cells_in_bounds { count_in cells.now < length marks.now }
-    ensures { SendsAll rows from owner cells.now marks.now (out_of news.old next steps.old) (out_of news.new result steps.new) }
+// How many steps a column has. Its numbers are of 16 bits.
+fn step_count(cells: &[u16]) -> usize
+    requires { 0 < length cells.now }
+    ensures value { result ≡ count_in cells.now }
+    ensures small { Small cells.now }
 {
-    let n = usize_of_u16(cells[0]);
-    let mut last = next;
-    let mut i: usize = 0;
-    while i < n {
-        last = send_one(steps, news, cells, marks, rows, from, owner, i, last);
-        i += 1;
-    }
-    last
+    usize::from(cells[0])
 }
 
 // Shared steps keep their new numbers, and the others have none.
@@ -142,59 +88,77 @@ fn forget(news: &mut [u32], from: usize)
     ensures { news.new ≡ forgotten from news.old }
 {
     let n = news.len() - 1;
-    let mut i = from;
-    while i < n {
+    for i in from..n {
         news[i + 1] = 0;
-        i += 1;
     }
 }
 
-// With marks of zeros, a place for each number of a step and one for 0.
-fn batch_in(
-    steps: &mut [[u64; WORDS]],
-    news: &mut [u32],
-    cells: &[u16],
-    marks: &mut [u16],
-    rows: usize,
-    from: usize,
-    owner: u8,
-    s: u16,
-    next: usize,
-) -> usize
-    requires sendable { Sendable cells.now news.old next }
-    requires marks_value { marks.old ≡ replicate (count_in cells.now + 1) 0 }
-    ensures { Batched rows from owner cells.now s (out_of news.old next steps.old) (out_of news.new result steps.new) }
-{
-    forget(news, from);
-    mark(cells, marks, s);
-    send(steps, news, cells, marks, rows, from, owner, next)
+impl<'a> Out<'a> {
+    // A step's new number; step 0 is none.
+    pub fn new_of(&self, r: u16) -> u32
+        ensures { result ≡ new_of self.now.news.now r }
+    {
+        new_of(self.news, r)
+    }
+
+    fn numbers(&self, column: Column, i: usize, k: usize) -> u64
+        requires places { i * draft_size + draft_size < length column.cells.now }
+        requires k_bound { k + 1 ≤ draft_size }
+        ensures { result ≡ numbers_word self.now.news.now (cell_in column.entry.cells.now i 1) (cell_in column.entry.cells.now i k) (cell_in column.entry.cells.now i (k + 1)) }
+    {
+        column.numbers(self.news, i, k)
+    }
+
+    // The words of step i, counted from 0, and its new number.
+    fn write_step(&mut self, i: usize, x: u64, y: u64, z: u64)
+        requires i_inside { i + 1 < length self.old.news.now }
+        requires next_bound { self.old.next + 1 < 4294967296 }
+        ensures { Becomes self.old self.new (out_of (set self.old.news.now (i + 1) (self.old.next + 1)) (self.old.next + 1) (set self.old.steps.now self.old.next (words_of x y z))) }
+    {
+        let next = self.next;
+        put_step(self.steps, next, x, y, z);
+        self.news[i + 1] = (next + 1) as u32;
+        self.next = next + 1;
+    }
+
+    // Step i, counted from 0, where it is marked and has no new number.
+    fn send_one(&mut self, column: Column, marks: &[u16], i: usize)
+        requires reaches { Reaches column.cells.now marks.now self.old.news.now i }
+        requires kind { cell_in column.cells.now i 1 < 256 }
+        requires next_bound { self.old.next + 1 < 4294967296 }
+        ensures { Becomes self.old self.new (send_one column.entry.rows column.entry.from column.entry.owner column.entry.cells.now marks.now i (out_in self.old)) }
+    {
+        if marks[i + 1] == 0 || self.news[i + 1] != 0 {
+            return;
+        }
+        let x = column.sides(i);
+        let y = self.numbers(column, i, 4);
+        let z = self.numbers(column, i, 6);
+        self.write_step(i, x, y, z);
+    }
+
+    // The steps that are marked and have no new number, in order.
+    fn send(&mut self, column: Column, marks: &[u16])
+        requires sendable { Sendable column.cells.now self.old.news.now self.old.next }
+        requires marks_bound { count_in column.cells.now < length marks.now }
+        ensures { Becomes self.old self.new (sent column.entry.rows column.entry.from column.entry.owner column.entry.cells.now marks.now (count_in column.entry.cells.now) (out_in self.old)) }
+    {
+        let n = step_count(column.cells);
+        for i in 0..n {
+            self.send_one(column, marks, i);
+        }
+    }
 }
 
-// Step s and what it rests on, as far as it is not written yet; the first steps are shared, and the others an owner's. How many are written.
-pub fn batch(
-    steps: &mut [[u64; WORDS]],
-    news: &mut [u32],
-    cells: &[u16],
-    rows: usize,
-    from: usize,
-    owner: u8,
-    s: u16,
-    next: usize,
-) -> usize
-    requires { Sendable cells.now news.old next }
-    ensures batched { Batched rows from owner cells.now s (out_of news.old next steps.old) (out_of news.new result steps.new) }
+// Step s of a column and what it rests on, as far as it is not written yet.
+pub fn batch(out: &mut Out, column: Column, s: u16)
+    requires { Sendable column.cells.now out.old.news.now out.old.next }
+    ensures keeps { Keeps out.old out.new }
+    ensures batched { Batched column.entry.rows column.entry.from column.entry.owner column.entry.cells.now s (out_in out.old) (out_in out.new) }
 {
-    let mut marks = [0u16; NUMBER_RUN];
-    let n = usize_of_u16(cells[0]) + 1;
-    batch_in(
-        steps,
-        news,
-        cells,
-        &mut marks[..n],
-        rows,
-        from,
-        owner,
-        s,
-        next,
-    )
+    forget(out.news, column.from);
+    let mut run = [0; NUMBER_RUN];
+    let marks = &mut run[..step_count(column.cells) + 1];
+    mark(column.cells, marks, s);
+    out.send(column, marks);
 }

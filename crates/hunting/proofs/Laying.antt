@@ -4,11 +4,12 @@
 --     lays-context, lays-rule    what is laid out says what the runs say
 --     lays_sound                 and is sound
 --     lays_one                   two that are laid out of the same are equal
+--     marked, lent .. laid-knows     what is lent says what is laid out
 --     hunt-answers, after-answers    what the search answers to what is sound
 --     hunt-done, after-done      and to runs
 -- Assumes nothing.
 use mathlib.Core.List.{List}
-use mathlib.Core.Path.{◌≡◌, refl, sym, subst, ◌∙◌}
+use mathlib.Core.Path.{◌≡◌, refl, sym, ap, ap₂, subst, ◌∙◌}
 use Prim.Native.Nat.{ℕ}
 use native.Mathlib.Omega.{arith}
 use borrow.Author.Rules.{rules}
@@ -19,11 +20,17 @@ use Rattle.layout.specs.Columns.{Few, FewRule, context_laid, rule_laid}
 use Rattle.layout.specs.declared.ContextColumns.{ContextColumns}
 use Rattle.layout.specs.declared.RuleColumns.{RuleColumns}
 use Rattle.layout.proofs.Agreeing.{context-says, rule-says, context-fits, rule_fits}
-use Rattle.further.specs.Marks.{Marks}
-use Rattle.differing.specs.Knowing.{Lends}
+use Rattle.meaning.specs.Equality.{Promise}
+use Rattle.columns.specs.declared.Context.{Context as Lent}
+use Rattle.columns.specs.declared.Rule.{Rule}
+use Rattle.columns.specs.Lent.{context_in as columns_say, rule_in as rule_says, Fits, FitsRule}
+use Rattle.layout.specs.Columns as L
+use Rattle.layout.specs.Lending.{LendsContext, LendsRule}
+use Rattle.further.specs.Marks.{Marks, MarksIn}
+use Rattle.differing.specs.Knowing.{Lends, Knows}
 use Rattle.differing.proofs.Knowing.{knows_start}
 use Rattle.search.specs.Hunting.{answer_of}
-use Rattle.search.specs.Finding.{found_by, later_by, FindsIn, fits, unfits, NextIn, next_fits, next-unfits}
+use Rattle.search.specs.Finding.{found_by, later_by, FindsFor, fits, unfits, NextFor, next_fits, next-unfits}
 use Rattle.search.specs.declared.Reply.{Reply}
 use Rattle.hunting.specs.Laid.{Ready, MarkedIn, Lays, context_in, rule_in, FitIn, FitRule, Sound}
 use Rattle.hunting.specs.declared.Laid.{Laid}
@@ -83,31 +90,45 @@ lays_one rows said patterns literals table r l m p q =
 
 -- ---- the search
 
-pub lent : (l : Laid) → Sound l
-    → Lends l.context.symbols l.context.counts l.context.args l.context.rows l.context.kinds l.context.lefts l.context.rights
-    l.context.statements l.table l.busy
-lent l s = record { closes = λ f. s.closed; marks = λ f. s.busy }
+module _ (c : ContextColumns) (n : Lent) (e : LendsContext c n) where
+  lent-says : columns_say n ≡ L.context_in c
+  lent-says = rw (e.symbols, e.counts, e.args, e.rows, e.kinds, e.lefts, e.rights, e.count)
 
-module _ (l : Laid) (s : Sound l) where
-  abbrev c : ContextColumns
-  c = l.context
+  lent-fits : FitIn c → Fits n
+  lent-fits f = rw (e.symbols, e.counts, e.args, e.rows, e.kinds, e.lefts, e.rights, e.count) f.fit
 
-  abbrev k : RuleColumns
-  k = l.rule
+  pub marked : (t m : List ℕ) → MarksIn n t m → MarkedIn c t m
+  marked t m w = record { so = rw (e.symbols, e.counts, e.args, e.rows, e.kinds, e.lefts, e.rights, e.count) at w }
 
-  pub hunt-answers : (r : Reply)
-      → FindsIn c.symbols c.counts c.args c.rows c.kinds c.lefts c.rights c.statements l.table k.kinds k.heads k.counts k.args
-      k.patterns k.signs k.lefts k.rights k.literals r
-      → r ≡ answer_of (found_by (context_in l) l.table (rule_in l))
-  hunt-answers r (fits p q) = refl
-  hunt-answers r (unfits n) = absurd (n s.context.fit s.rule.fit)
+module _ (k : RuleColumns) (r : Rule) (e : LendsRule k r) where
+  lent-rule : rule_says r ≡ L.rule_in k
+  lent-rule = rw (e.kinds, e.heads, e.counts, e.args, e.rows, e.signs, e.lefts, e.rights, e.count)
 
-  pub after-answers : (after : List ℕ) (r : Reply)
-      → NextIn c.symbols c.counts c.args c.rows c.kinds c.lefts c.rights c.statements l.table k.kinds k.heads k.counts k.args
-      k.patterns k.signs k.lefts k.rights k.literals after r
-      → r ≡ answer_of (later_by (context_in l) l.table (rule_in l) after)
-  after-answers after r (next_fits p q) = refl
-  after-answers after r (next-unfits n) = absurd (n s.context.fit s.rule.fit)
+  lent-rule-fits : FitRule k → FitsRule r
+  lent-rule-fits f = rw (e.kinds, e.heads, e.counts, e.args, e.rows, e.signs, e.lefts, e.rights, e.count) f.fit
+
+module _ (l : Laid) (s : Sound l) (n : Lent) (e : LendsContext l.context n) where
+  says : columns_say n ≡ context_in l
+  says = lent-says l.context n e
+
+  pub lent : Lends n.terms.symbols.now n.terms.counts.now n.terms.args.now n.terms.rows n.statements.kinds.now n.statements.lefts.now n.statements.rights.now
+      n.statements.count l.table l.busy
+  lent = record { closes = λ _. subst (λ x. Promise x 255 l.table) (sym says) s.closed; marks = λ _. subst (λ x. Marks x l.table l.busy) (sym says) s.busy }
+
+  pub lent-knows : (known : List ℕ) → Knows (context_in l) known → Knows (columns_say n) known
+  lent-knows known w = subst (λ x. Knows x known) (sym says) w
+
+  pub laid-knows : (known : List ℕ) → Knows (columns_say n) known → Knows (context_in l) known
+  laid-knows known w = subst (λ x. Knows x known) says w
+
+  module _ (r : Rule) (f : LendsRule l.rule r) where
+    pub hunt-answers : (x : Reply) → FindsFor n l.table r x → x ≡ answer_of (found_by (context_in l) l.table (rule_in l))
+    hunt-answers x (fits p q) = ap answer_of (ap₂ (λ a b. found_by a l.table b) says (lent-rule l.rule r f))
+    hunt-answers x (unfits m) = absurd (m (lent-fits l.context n e s.context) (lent-rule-fits l.rule r f s.rule))
+
+    pub after-answers : (after : List ℕ) (x : Reply) → NextFor n l.table r after x → x ≡ answer_of (later_by (context_in l) l.table (rule_in l) after)
+    after-answers after x (next_fits p q) = ap answer_of (ap₂ (λ a b. later_by a l.table b after) says (lent-rule l.rule r f))
+    after-answers after x (next-unfits m) = absurd (m (lent-fits l.context n e s.context) (lent-rule-fits l.rule r f s.rule))
 
 module _ (rows said patterns literals table : List ℕ) (r : Ready rows said patterns literals table) (l : Laid) (h : Lays rows said patterns literals table l) where
   pub hunt-done : (y : Reply) → y ≡ answer_of (found_by (context_in l) l.table (rule_in l)) → y ≡ answer_of (found_by (context_of rows said) table (clause_of patterns literals))
@@ -119,4 +140,4 @@ module _ (rows said patterns literals table : List ℕ) (r : Ready rows said pat
   after-done after y e =
       e ∙ rw (lays-context rows said patterns literals table r l h, lays-rule rows said patterns literals table r l h, h.closing)
 
-pub ruleset mine = (rules, few-rows, few-rule, lays-done, lays_sound, lent, knows_start, hunt-answers, after-answers, hunt-done, after-done)
+pub ruleset mine = (rules, few-rows, few-rule, lays-done, lays_sound, marked, lent, lent-knows, laid-knows, knows_start, hunt-answers, after-answers, hunt-done, after-done)

@@ -9,6 +9,7 @@ ghost use Rattle.search.specs.Hunting.{answer_of};
 ghost use Rattle.search.specs.Finding.{found_by, later_by};
 ghost use Rattle.hunting.specs.Laid.{Ready, MarkedIn, Lays, Sound, context_in, rule_in, nothing_known};
 
+use differing::Classed;
 use layout::{ContextColumns, RuleColumns, context_columns, rule_columns};
 use runs::limits::{ROWS, VARIABLES};
 use search::Reply;
@@ -33,14 +34,11 @@ pub fn unknown() -> [u8; PAIRS]
 }
 
 // The marks of the busy classes of a context, by a table.
-fn marks(c: ContextColumns, table: [u16; ROWS]) -> [u8; ROWS]
-    ensures marks { MarkedIn c table result }
+fn marks(context: &ContextColumns, table: &[u16; ROWS]) -> [u8; ROWS]
+    ensures marks { MarkedIn context.now table.now result }
 {
-    let rows = c.rows;
-    let statements = c.statements;
-    further::busy_classes(
-        &c.symbols, &c.counts, &c.args, rows, &c.kinds, &c.lefts, &c.rights, statements, &table,
-    )
+    let lent = context.lent();
+    further::busy_classes(&lent, table)
 }
 
 // Laid out once, for any number of searches. The table is the context's closing.
@@ -56,7 +54,7 @@ pub fn lay<'a>(
 {
     let context = context_columns(rows, said);
     let rule = rule_columns(patterns, literals);
-    let busy = marks(context, table);
+    let busy = marks(&context, &table);
     Laid {
         context,
         rule,
@@ -72,17 +70,13 @@ pub fn hunt_with(l: Laid, known: &mut [u8; PAIRS]) -> Reply
     ensures hunts { result ≡ answer_of (found_by (context_in l) l.table (rule_in l)) }
     ensures knows { Knows (context_in l) known.new }
 {
-    let c = l.context;
-    let k = l.rule;
-    let rows = c.rows;
-    let statements = c.statements;
-    let patterns = k.patterns;
-    let literals = k.literals;
-    search::find_with(
-        &c.symbols, &c.counts, &c.args, rows, &c.kinds, &c.lefts, &c.rights, statements, &l.table,
-        &l.table, &l.busy, known, &k.kinds, &k.heads, &k.counts, &k.args, patterns, &k.signs,
-        &k.lefts, &k.rights, literals,
-    )
+    let rule = l.rule.lent();
+    let classed = Classed {
+        context: l.context.lent(),
+        closed: &l.table,
+        busy: &l.busy,
+    };
+    search::find_with(&classed, &l.table, known, &rule)
 }
 
 // The first breach after an assignment.
@@ -92,17 +86,13 @@ pub fn hunt_after_with(l: Laid, known: &mut [u8; PAIRS], after: [u16; VARIABLES]
     ensures hunts { result ≡ answer_of (later_by (context_in l) l.table (rule_in l) after) }
     ensures knows { Knows (context_in l) known.new }
 {
-    let c = l.context;
-    let k = l.rule;
-    let rows = c.rows;
-    let statements = c.statements;
-    let patterns = k.patterns;
-    let literals = k.literals;
-    search::next_with(
-        &c.symbols, &c.counts, &c.args, rows, &c.kinds, &c.lefts, &c.rights, statements, &l.table,
-        &l.table, &l.busy, known, &k.kinds, &k.heads, &k.counts, &k.args, patterns, &k.signs,
-        &k.lefts, &k.rights, literals, after,
-    )
+    let rule = l.rule.lent();
+    let classed = Classed {
+        context: l.context.lent(),
+        closed: &l.table,
+        busy: &l.busy,
+    };
+    search::next_with(&classed, &l.table, known, &rule, after)
 }
 
 // The first breach, over runs. The table is the context's closing.

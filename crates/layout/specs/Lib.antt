@@ -1,2 +1,3 @@
 -- The root of the definitions.
 pub mod Columns
+pub mod Lending

@@ -8,22 +8,22 @@ use mathlib.Core.List.{List, [], ◌∷◌, ◌++◌, append-nil, append_assoc}
 use mathlib.Core.Path.{◌≡◌, refl, sym, ap, ap₂, subst, ◌∙◌}
 use Prim.Native.Nat.{ℕ, ◌+◌, ◌-◌, ◌≤◌, ◌<◌}
 use native.Mathlib.Omega.{arith}
-use mir.Syntax.{w64}
-use mir.Val.{Fits}
+use borrow.Rule.Slice.PartMut.{put_mid, same_len_mid}
 use borrow.Author.Rules.{rules}
-use lib.ListN.{length, take, drop, replicate, length-append, length-replicate}
-use lib.Seq.{sets, sets-eq, length-sets, take_at, drop-append-add, drop-drop}
+use lib.ListN.{length, take, drop, replicate, length-append, length-drop}
+use lib.Seq.{take_at, drop_at, drop-drop, length-take-le}
 use Rattle.meaning.specs.Context.{Context}
-use Rattle.meaning.specs.Rules.{Clause, Found, nothing}
+use Rattle.meaning.specs.Rules.{Clause, Found}
 use Rattle.meaning.specs.Writing.{frame}
 use Rattle.meaning.specs.Replies.{Reply, code_of, values_of, reply_of, printed}
 use Rattle.reply_lines.specs.Prints.{Prints}
 use Rattle.reply_lines.proofs.Lines.{length-frame}
 use Rattle.listing.specs.declared.State.{State}
+use Rattle.listing.specs.declared.State.TheVariants.{Done}
 use Rattle.listing.specs.declared.Filled.{Filled}
 use Rattle.listing.specs.declared.Entry.{Entry}
 use Rattle.listing.specs.Filling.{state_after, Comes, Stopped, Runs, stops, waits, writes, Fills}
-use Rattle.listing.specs.Entries.{EntryAt, line, stop, Lined}
+use Rattle.listing.specs.Entries.{Entered}
 
 -- a line has bytes
 line-some : (r : Reply) → 0 < length (printed r)
@@ -32,18 +32,6 @@ line-some r = omega (arith, length-frame (code_of r ∷ values_of r))
 
 pub front_of : (l bytes : List ℕ) (n : ℕ) → Prints l bytes n → take n bytes ≡ l
 front_of l bytes n p = ap (take n) p.front ∙ take_at l (replicate (32 - length l) 0) n (sym p.size)
-
--- a piece that is stored right behind others
-stored-behind : (lent after p q : List ℕ) (n : ℕ) → n ≡ length p → after ≡ p ++ drop n lent → length after ≡ length lent → n + length q ≤ length lent
-    → sets after n q ≡ (p ++ q) ++ drop (n + length q) lent
-stored-behind lent after p q n h e l room =
-    sets-eq q after n (omega arith)
-    ∙ ap₂ (λ (x y : List ℕ). x ++ q ++ y) (ap (take n) e ∙ take_at p (drop n lent) n (sym h)) behind
-  where
-    behind : drop (n + length q) after ≡ drop (n + length q) lent
-    behind =
-        ap (drop (n + length q)) e ∙ ap (λ (i : ℕ). drop (i + length q) (p ++ drop n lent)) h
-        ∙ drop-append-add p (drop n lent) (length q) ∙ drop-drop (length q) n lent
 
 module _ (c : Context) (t : List ℕ) (k : Clause) (s : State) (lent : List ℕ) where
   pub record Filling (used : ℕ) (at : State) (after : List ℕ) : Type 0 where
@@ -65,39 +53,58 @@ module _ (c : Context) (t : List ℕ) (k : Clause) (s : State) (lent : List ℕ)
         onward = λ bytes u r. let e : length lent - 0 ≡ length lent = omega arith in rw e at r;
       }
 
-  module _ (used : ℕ) (at : State) (after : List ℕ) (f : Filling used at after) (e : Entry) where
+  module _ (used : ℕ) (at : State) (after : List ℕ) (f : Filling used at after) where
+    -- the bytes of a line
+    line_of : (e : Entry) (w : Entered c t k at e) → take e.line.len e.line.bytes ≡ printed (reply_of w.what)
+    line_of e w = front_of (printed (reply_of w.what)) e.line.bytes e.line.len w.told.prints
+
     -- one line more
-    step_line_lem : (r : Found) → Comes c t k at r → Prints (printed (reply_of r)) e.bytes e.len → e.next ≡ state_after r → e.len ≤ length after - used
-        → (new : List ℕ) → new ≡ sets after used (take e.len e.bytes) → Filling (used + e.len) e.next new
-    step_line_lem r w p n room new q =
+    pub filling_step : (e : Entry) → Entered c t k at e → (line : List ℕ) → line ≡ take e.line.len e.line.bytes → length line ≤ length after - used
+        → (put : List ℕ) → put ≡ line → Filling (used + length line) e.next (put_mid used (used + length line - used) after put)
+    filling_step e w line q room put made =
         record {
           written = f.written ++ l;
-          size = omega (arith, f.size, length-append f.written l, p.size);
+          size = omega (arith, f.size, length-append f.written l, ap length same);
           within = omega (arith, f.within, f.long);
-          long = ap length q ∙ length-sets after used (take e.len e.bytes) ∙ f.long;
+          long =
+              same_len_mid used m after put (omega (arith, ap length made, length-take-le m (drop used after) (omega (arith, length-drop used after)), length-drop used after))
+              ∙ f.long;
           stored =
-              q ∙ ap (sets after used) (front_of l e.bytes e.len p)
-              ∙ stored-behind lent after f.written l used f.size f.stored f.long (omega (arith, f.within, f.long, p.size))
-              ∙ ap (λ (i : ℕ). (f.written ++ l) ++ drop (used + i) lent) (sym p.size);
+              ap₂ (λ (x y : List ℕ). x ++ (put ++ y)) front behind
+              ∙ ap (λ (x : List ℕ). f.written ++ (x ++ drop (used + length line) lent)) (made ∙ same)
+              ∙ sym (append_assoc f.written l (drop (used + length line) lent));
           onward = λ bytes u x. rw append_assoc (f.onward (l ++ bytes) u (more bytes u x));
         }
       where
+        m : ℕ
+        m = used + length line - used
+
         l : List ℕ
-        l = printed (reply_of r)
+        l = printed (reply_of w.what)
 
-        more : (bytes : List ℕ) (u : State) → Runs c t k (length lent - (used + e.len)) e.next bytes u → Runs c t k (length lent - used) at (l ++ bytes) u
+        same : line ≡ l
+        same = q ∙ line_of e w
+
+        front : take used after ≡ f.written
+        front = ap (take used) f.stored ∙ take_at f.written (drop used lent) used (sym f.size)
+
+        behind : drop m (drop used after) ≡ drop (used + length line) lent
+        behind =
+            let n : m ≡ length line = omega arith in
+            ap (λ (i : ℕ). drop i (drop used after)) n
+            ∙ ap (drop (length line)) (ap (drop used) f.stored ∙ drop_at f.written (drop used lent) used (sym f.size)) ∙ drop-drop (length line) used lent
+
+        more : (bytes : List ℕ) (u : State) → Runs c t k (length lent - (used + length line)) e.next bytes u → Runs c t k (length lent - used) at (l ++ bytes) u
         more bytes u x =
-            let d : length lent - (used + e.len) ≡ (length lent - used) - length l = omega (arith, p.size) in
-            writes (length lent - used) at r w (omega (arith, f.long, p.size)) bytes u
-            (subst (λ (z : State). Runs c t k ((length lent - used) - length l) z bytes u) n (subst (λ (i : ℕ). Runs c t k i e.next bytes u) d x))
+            let d : length lent - (used + length line) ≡ (length lent - used) - length l = omega (arith, ap length same) in
+            writes (length lent - used) at w.what w.comes (omega (arith, f.long, ap length same)) bytes u
+            (subst (λ (z : State). Runs c t k ((length lent - used) - length l) z bytes u) w.told.state (subst (λ (i : ℕ). Runs c t k i e.next bytes u) d x))
 
-    pub filling-fits : e.len ≤ length after - used → Fits w64 (length after) → Fits w64 (used + e.len)
-    filling-fits room h = omega (arith, f.within, f.long)
-
-    pub filling_step : EntryAt c t k at e → (e.len ≡ 0 → ⊥) → e.len ≤ length after - used
-        → (new : List ℕ) → new ≡ sets after used (take e.len e.bytes) → Filling (used + e.len) e.next new
-    filling_step (line r w p n) some room = step_line_lem r w p n room
-    filling_step (stop w z) some room = absurd (some z)
+    -- the room becomes less
+    pub filling-less : (e : Entry) → Entered c t k at e → (line : List ℕ) → line ≡ take e.line.len e.line.bytes → length line ≤ length after - used
+        → (put : List ℕ) → put ≡ line → length (put_mid used (used + length line - used) after put) - (used + length line) < length after - used
+    filling-less e w line q room put made =
+        omega (arith, (filling_step e w line q room put made).long, f.long, line-some (reply_of w.what), ap length (q ∙ line_of e w))
 
     -- the run ends here
     ends : (u : State) → Runs c t k (length lent - used) at [] u → Fills c t k s lent (record { used = used; next = u }) after
@@ -109,26 +116,12 @@ module _ (c : Context) (t : List ℕ) (k : Clause) (s : State) (lent : List ℕ)
           stored = f.stored ∙ ap (λ (i : ℕ). f.written ++ drop i lent) f.size;
         }
 
-    pub filling-stop : EntryAt c t k at e → e.len ≡ 0 → (u : State) → u ≡ state_after nothing → Fills c t k s lent (record { used = used; next = u }) after
-    filling-stop (line r w p n) z u q = absurd (omega (arith, line-some (reply_of r), p.size))
-    filling-stop (stop w z) y u q = rw q (ends (state_after nothing) (stops (length lent - used) at w))
+    pub filling-stop : Stopped at → Fills c t k s lent (record { used = used; next = Done }) after
+    filling-stop w = ends Done (stops (length lent - used) at w)
 
-    pub filling-wait : EntryAt c t k at e → (e.len ≡ 0 → ⊥) → length after - used < e.len → Fills c t k s lent (record { used = used; next = at }) after
-    filling-wait (line r w p n) some short = ends at (waits (length lent - used) at r w (omega (arith, f.long, p.size)))
-    filling-wait (stop w z) some short = absurd (some z)
-
-    -- a line fits into 32 bytes
-    pub filling-room : EntryAt c t k at e → length e.bytes ≡ 32 → e.len ≤ length after - used → Lined e.len after used
-    filling-room (line r w p n) whole room =
-        record {
-          short =
-              omega (arith, p.size, ap length p.front, length-append l (replicate (32 - length l) 0), length-replicate {A = ℕ} (32 - length l) 0);
-          room = omega (arith, f.long, f.within);
-        }
-      where
-        l : List ℕ
-        l = printed (reply_of r)
-    filling-room (stop w z) whole room = record { short = omega arith; room = omega (arith, f.long, f.within) }
+    pub filling-wait : (e : Entry) → Entered c t k at e → (line : List ℕ) → line ≡ take e.line.len e.line.bytes → length after - used < length line
+        → Fills c t k s lent (record { used = used; next = at }) after
+    filling-wait e w line q short = ends at (waits (length lent - used) at w.what w.comes (omega (arith, f.long, ap length (q ∙ line_of e w))))
 
 -- ---- one answer
 
@@ -162,4 +155,4 @@ module _ (c : Context) (t : List ℕ) (k : Clause) where
         v.stored ∙ ap (λ (l : List ℕ). l ++ drop (length l) lent) o.0 ∙ sym w.stored,
       )
 
-pub ruleset mine = (rules, filling-start, filling_step, filling-fits, filling-stop, filling-wait, filling-room)
+pub ruleset mine = (rules, filling-start, filling_step, filling-less, filling-stop, filling-wait)

@@ -1,27 +1,25 @@
--- The line that comes at a state: the ways out of the functions that ask for it, tell it and store it.
+-- The line that comes at a state: the ways out of the functions that ask for it and tell it.
 --     lent_again, lent-sound, lent-knows        what is lent, with what is known afterwards
 --     sound-fitted                              what is laid out is within the limits
---     told-breach, told-clear, told-unfit       the line of a breach, the last line, and no line
---     line-start, line_after, line-done         what comes at each stage
---     Copying                                   some bytes of a line are stored
+--     line-start, line_after                    what comes at the start, and after a breach
 -- Assumes nothing.
 use mathlib.Core.Bool.{Bool, true, false}
 use mathlib.Core.List.{List, [], ◌∷◌, ◌++◌, map}
-use mathlib.Core.Path.{◌≡◌, refl, sym, ap, ap₂, subst, ◌∙◌}
-use Prim.Native.Nat.{ℕ, zero, suc, ◌+◌, ◌-◌, ◌≤◌, ◌<◌}
-use native.Mathlib.Numerals.{add-one}
+use mathlib.Core.Path.{◌≡◌, refl, ap, ap₂, subst, ◌∙◌}
+use Prim.Native.Nat.{ℕ, zero, suc, ◌-◌, ◌≤◌, ◌<◌}
 use native.Mathlib.Omega.{arith}
 use borrow.Author.Rules.{rules}
 use borrow.Author.Tests.{eqb-true}
 use lib.Dec.{eqb}
-use lib.ListN.{length, get_or, set, take, replicate}
-use lib.Seq.{sets, length-sets, take-suc, length-take-le, take-append_seam}
+use lib.ListN.{length, get_or, take, replicate}
+use lib.Seq.{take-append_seam}
+use Rattle.std.proofs.Common.{Option, Some, None}
 use Rattle.meaning.specs.Context.{Context}
 use Rattle.meaning.specs.Equality.{rep_at}
 use Rattle.meaning.specs.Formed.{AllPlaced, NamesAll}
 use Rattle.meaning.specs.Rules.{Pattern, variable, apply, Clause, variables, Found, found, nothing, First, Before, Below, range_of}
 use Rattle.meaning.specs.Columns.{args_at, context_from, pattern_of, patterns_from, clause_from}
-use Rattle.meaning.specs.Replies.{breach, none, printed, places_of}
+use Rattle.meaning.specs.Replies.{places_of}
 use Rattle.meaning.specs.Following.{differ_by}
 use Rattle.meaning.proofs.Table.{length-terms}
 use Rattle.meaning.proofs.Lists.{below_wider}
@@ -33,19 +31,15 @@ use Rattle.runs.specs.Limits.{most_rows, most_variables}
 use Rattle.differing.specs.Knowing.{Knows}
 use Rattle.search.specs.Hunting.{answer_of}
 use Rattle.search.specs.Finding.{found_by, later_by}
-use Rattle.search.specs.declared.Kind.{Kind}
-use Rattle.search.specs.declared.Kind.TheVariants as S
 use Rattle.search.specs.declared.Reply.{Reply}
 use Rattle.hunting.specs.Laid.{context_in, rule_in, Sound}
 use Rattle.hunting.specs.declared.Laid.{Laid}
 use Rattle.reply_lines.specs.Pieces.{low8}
-use Rattle.reply_lines.specs.Prints.{Prints}
-use Rattle.reply_lines.proofs.Stores.{sets-append}
-use Rattle.listing.specs.declared.Stage.TheVariants.{Start, After, Done}
 use Rattle.listing.specs.declared.State.{State}
+use Rattle.listing.specs.declared.State.TheVariants.{Start, After, Done}
 use Rattle.listing.specs.declared.Entry.{Entry}
-use Rattle.listing.specs.Filling.{Fitted, Lent, state_after, comes_by}
-use Rattle.listing.specs.Entries.{Tells, EntryAt, line, stop, Lined}
+use Rattle.listing.specs.Filling.{Fitted, Lent, comes_by}
+use Rattle.listing.specs.Entries.{Tells, EntryAt}
 
 -- ---- what is lent
 
@@ -103,20 +97,6 @@ module _ (l : Laid) (s : Sound l) where
   pub sound-fitted : Fitted (context_in l) (rule_in l)
   sound-fitted = record { formed = record { fit = s.context.fit.fit; placed = places; named = names }; rows_few = rows_long; variables-few = rule-few }
 
--- ---- an answer as a line
-
-module _ (kind : Kind) (places : List ℕ) where
-  pub told-breach : (n m : ℕ) (bytes : List ℕ) (len : ℕ) → kind ≡ S.Breach n → m ≡ n → Prints (printed (breach (map low8 (take m places)))) bytes len
-      → Tells kind places (record { bytes = bytes; len = len; next = record { stage = After; places = places } })
-  told-breach n m bytes len e f p = rw e (record { line = rw f at p; next = refl })
-
-  pub told-clear : (bytes : List ℕ) (len : ℕ) (s : State) → kind ≡ S.Clear → Prints (printed none) bytes len → s ≡ state_after nothing
-      → Tells kind places (record { bytes = bytes; len = len; next = s })
-  told-clear bytes len s e p q = rw e (record { line = p; next = q })
-
-  pub told-unfit : (s : State) → kind ≡ S.Unfit → s ≡ state_after nothing → Tells kind places (record { bytes = replicate 32 0; len = 0; next = s })
-  told-unfit s e q = rw e (record { line = record { size = refl; front = refl }; next = q })
-
 -- ---- what comes at a state
 
 low-bytes : (a : List ℕ) → Below 256 a → map low8 a ≡ a
@@ -142,76 +122,42 @@ module _ (c : Context) (t : List ℕ) (k : Clause) (f : Fitted c k) where
   sought-low : (a : List ℕ) → Sought (differ_by c) c.rows (rep_at t) 65536 k a → Below 256 a
   sought-low a w = below_wider (length (range_of c)) 256 a range-few (starts-below c (rep_at t) a w.1)
 
-module _ (c : Context) (t : List ℕ) (k : Clause) (f : Fitted c k) (s : State) (e : Entry) where
-  line-found : (x : Found) → ((a : List ℕ) → x ≡ found a → Below 256 a) → (s.stage ≡ Done → ⊥) → x ≡ comes_by c t k s.stage s.places
-      → Tells (answer_of x).kind (answer_of x).places e → EntryAt c t k s e
+module _ (c : Context) (t : List ℕ) (k : Clause) (f : Fitted c k) (s : State) (o : Option Entry) where
+  line-found : (x : Found) → ((a : List ℕ) → x ≡ found a → Below 256 a) → (s ≡ Done → ⊥) → x ≡ comes_by c t k s
+      → Tells (answer_of x).kind (answer_of x).places o → EntryAt c t k s o
   unfolding answer_of places_of
-  line-found (found a) low g q w =
-      let b : map low8 (take (length a) (a ++ replicate (4 - length a) 255)) ≡ a =
-      ap (map low8) (take-append_seam a (replicate (4 - length a) 255)) ∙ low-bytes a (low a refl) in
-      line (found a) (record { fitted = f; going = g; what = q }) (rw b at w.line) w.next
-  line-found nothing low g q w = line nothing (record { fitted = f; going = g; what = q }) w.line w.next
+  line-found (found a) low g q w = go o w
+    where
+      b : map low8 (take (length a) (a ++ replicate (4 - length a) 255)) ≡ a
+      b = ap (map low8) (take-append_seam a (replicate (4 - length a) 255)) ∙ low-bytes a (low a refl)
+
+      go : (p : Option Entry) → Tells (answer_of (found a)).kind (answer_of (found a)).places p → EntryAt c t k s p
+      go (Some e) v = record { what = found a; comes = record { fitted = f; going = g; what = q }; told = rw b at v }
+      go None v = absurd v
+  line-found nothing low g q w = go o w
+    where
+      go : (p : Option Entry) → Tells (answer_of nothing).kind (answer_of nothing).places p → EntryAt c t k s p
+      go (Some e) v = record { what = nothing; comes = record { fitted = f; going = g; what = q }; told = v }
+      go None v = absurd v
 
 -- what a search answers, told as a line
-module _ (l : Laid) (known : List ℕ) (lent : Lent l known) (s : State) (e : Entry) (r : Reply) where
-  pub line-start : s.stage ≡ Start → r ≡ answer_of (found_by (context_in l) l.table (rule_in l)) → Tells r.kind r.places e
-      → EntryAt (context_in l) l.table (rule_in l) s e
+module _ (l : Laid) (known : List ℕ) (lent : Lent l known) (s : State) (o : Option Entry) (r : Reply) where
+  pub line-start : s ≡ Start → r ≡ answer_of (found_by (context_in l) l.table (rule_in l)) → Tells r.kind r.places o
+      → EntryAt (context_in l) l.table (rule_in l) s o
   unfolding comes_by
   line-start q a w =
-      line-found (context_in l) l.table (rule_in l) (sound-fitted l lent.sound) s e (found_by (context_in l) l.table (rule_in l))
+      line-found (context_in l) l.table (rule_in l) (sound-fitted l lent.sound) s o (found_by (context_in l) l.table (rule_in l))
       (λ b p. sought-low (context_in l) l.table (rule_in l) (sound-fitted l lent.sound) b (found-sought (context_in l) l.table (rule_in l) b p))
       (λ d. absurd (let z : ◌≡◌ {A = ℕ} 0 1 = cc in omega arith)) (rw q refl)
-      (subst (λ (y : Reply). Tells y.kind y.places e) a w)
+      (subst (λ (y : Reply). Tells y.kind y.places o) a w)
 
-  pub line_after : s.stage ≡ After → r ≡ answer_of (later_by (context_in l) l.table (rule_in l) s.places) → Tells r.kind r.places e
-      → EntryAt (context_in l) l.table (rule_in l) s e
+  pub line_after : (places : List ℕ) → s ≡ After places → r ≡ answer_of (later_by (context_in l) l.table (rule_in l) places) → Tells r.kind r.places o
+      → EntryAt (context_in l) l.table (rule_in l) s o
   unfolding comes_by
-  line_after q a w =
-      line-found (context_in l) l.table (rule_in l) (sound-fitted l lent.sound) s e (later_by (context_in l) l.table (rule_in l) s.places)
-      (λ b p. sought-low (context_in l) l.table (rule_in l) (sound-fitted l lent.sound) b (next-sought (context_in l) l.table (rule_in l) s.places b p))
+  line_after places q a w =
+      line-found (context_in l) l.table (rule_in l) (sound-fitted l lent.sound) s o (later_by (context_in l) l.table (rule_in l) places)
+      (λ b p. sought-low (context_in l) l.table (rule_in l) (sound-fitted l lent.sound) b (next-sought (context_in l) l.table (rule_in l) places b p))
       (λ d. absurd (let z : ◌≡◌ {A = ℕ} 0 1 = cc in omega arith)) (rw q refl)
-      (subst (λ (y : Reply). Tells y.kind y.places e) a w)
+      (subst (λ (y : Reply). Tells y.kind y.places o) a w)
 
-pub line-done : (c : Context) (t : List ℕ) (k : Clause) (s : State) (e : Entry) → s.stage ≡ Done → Tells S.Unfit s.places e → EntryAt c t k s e
-line-done c t k s e q w = stop (record { done = q }) w.line.size
-
--- ---- bytes are stored
-
--- the first i of so many bytes stand from a place on
-pub record Copying (bytes : List ℕ) (len : ℕ) (lent : List ℕ) (at i : ℕ) (after : List ℕ) : Type 0 where
-  pub whole : length bytes ≡ 32
-  pub within : i ≤ len
-  pub stored : after ≡ sets lent at (take i bytes)
-  pub long : length after ≡ length lent
-
-pub copying-start : (bytes lent : List ℕ) (len at : ℕ) → length bytes ≡ 32 → Copying bytes len lent at 0 lent
-copying-start bytes lent len at e = record { whole = e; within = omega arith; stored = refl; long = refl }
-
-pub copying-step : {bytes lent after : List ℕ} {len at i : ℕ} → Lined len lent at → Copying bytes len lent at i after → i < len
-    → Copying bytes len lent at (i + 1) (set after (at + i) (get_or bytes i 0))
-copying-step {bytes} {lent} {after} {len} {at} {i} r f h =
-    record {
-      whole = f.whole;
-      within = omega arith;
-      stored =
-          ap (λ (m : List ℕ). set m (at + i) b) f.stored ∙ ap (λ (j : ℕ). set (sets lent at q) (at + j) b) (sym size)
-          ∙ sym (sets-append q (b ∷ []) lent at)
-          ∙ ap (sets lent at) (sym (take-suc bytes i 0 (omega (arith, r.short, f.whole))))
-          ∙ ap (λ (j : ℕ). sets lent at (take j bytes)) (sym (add-one i));
-      long = omega (arith, length-sets after (at + i) (b ∷ []), f.long);
-    }
-  where
-    b : ℕ
-    b = get_or bytes i 0
-
-    q : List ℕ
-    q = take i bytes
-
-    size : length q ≡ i
-    size = length-take-le i bytes (omega (arith, r.short, f.whole))
-
-pub copying-done : {bytes lent after : List ℕ} {len at i : ℕ} → Copying bytes len lent at i after → len ≤ i → after ≡ sets lent at (take len bytes)
-copying-done {bytes} {lent} {after} {len} {at} {i} f h =
-    let e : i ≡ len = omega (arith, f.within) in f.stored ∙ ap (λ (j : ℕ). sets lent at (take j bytes)) e
-
-pub ruleset mine = (rules, lent_again, lent-sound, lent-knows, told-breach, told-clear, told-unfit, line-start, line_after, line-done, copying-start, copying-step, copying-done)
+pub ruleset mine = (rules, lent_again, lent-sound, lent-knows, line-start, line_after)

@@ -14,6 +14,7 @@ use borrow.Author.Rules.{rules}
 use borrow.Author.Tests.{ltb-true, ltb-false, lt-ltb, le-ltb}
 use lib.Dec.{ltb}
 use lib.ListN.{length, take}
+use Rattle.std.proofs.Common.{Result, Ok, Err}
 use Rattle.meaning.specs.Equality.{Consistent}
 use Rattle.meaning.specs.Text.{narrow}
 use Rattle.meaning.specs.Replies.{refused, refusal, printed, input_limit, Replies}
@@ -28,14 +29,12 @@ use Rattle.hunting.specs.declared.Laid.{Laid}
 use Rattle.hunting.proofs.Laying.{lays-context, lays-rule, lays_sound, lays_one}
 use Rattle.ruling.specs.Claims as R
 use Rattle.ruling.specs.Claims.{rows_in, said_in, patterns_in, literals_in, Ruling, Rules}
-use Rattle.ruling.specs.declared.Answer.{Answer}
-use Rattle.ruling.specs.declared.Answer.TheVariants as A
 use Rattle.ruling.specs.declared.Ruled.{Ruled}
 use Rattle.ruling.proofs.Ruling.{Stands, ready-stands, ready-consistent, refused-answers, ruled-one, rules-one}
 use Rattle.finder.proofs.Standing.{told-filled, told-ready, ready-replies}
 use Rattle.reply_lines.specs.Prints.{Prints}
 use Rattle.reply_lines.specs.declared.Line.{Line}
-use Rattle.reply_lines.proofs.Printing.{prints-one}
+use Rattle.reply_lines.proofs.Printing.{line-one}
 use Rattle.listing.specs.declared.State.{State}
 use Rattle.listing.specs.declared.opening.Opened.{Opened}
 use Rattle.listing.specs.Filling.{Lent, start_state, Pieces, over}
@@ -47,31 +46,31 @@ use Rattle.listing.proofs.Whole.{every-ends, text-pieces}
 
 -- ---- the parts
 
-pub limit-long : (n : ℕ) (answer : Answer) → input_limit < n → A.Refused (record { number = 11; line = 0; offset = 0 }) ≡ limited_by n answer
+pub limit-long : (n : ℕ) (answer : Result (Unit {0}) Refusal) → input_limit < n → Err (record { number = 11; line = 0; offset = 0 }) ≡ limited_by n answer
 unfolding limited_by
 limit-long n answer h = rw (limited_by, lt-ltb input_limit n h) refl
 
-pub limit-short : (n : ℕ) (answer : Answer) → n ≤ input_limit → answer ≡ limited_by n answer
+pub limit-short : (n : ℕ) (answer : Result (Unit {0}) Refusal) → n ≤ input_limit → answer ≡ limited_by n answer
 unfolding limited_by
 limit-short n answer h = rw (limited_by, le-ltb input_limit n h) refl
 
-pub head-ready : (answer : Answer) (l : Line) (s : State) → answer ≡ A.Ready → Prints [] l.bytes l.len → s ≡ start_state → Headed answer l s
+pub head-ready : (answer : Result (Unit {0}) Refusal) (l : Line) (s : State) → answer ≡ (Ok tt) → Prints [] l.bytes l.len → s ≡ start_state → Headed answer l s
 head-ready answer l s e p q = subst (Headed answer l) (sym q) (starts e p)
 
-pub head-refused : (answer : Answer) (x : Refusal) (l : Line) (s : State) → answer ≡ A.Refused x
+pub head-refused : (answer : Result (Unit {0}) Refusal) (x : Refusal) (l : Line) (s : State) → answer ≡ Err x
     → Prints (printed (refused (meant x))) l.bytes l.len → s ≡ done_state → Headed answer l s
 head-refused answer x l s e p q = subst (Headed answer l) (sym q) (ends x e p)
 
 -- ---- the input
 
-headed-begins : (input : List ℕ) (a b : Answer) (l : Line) (s : State) → Ruling input a → b ≡ limited_by (length input) a → Headed b l s → Begins input l s
+headed-begins : (input : List ℕ) (a b : Result (Unit {0}) Refusal) (l : Line) (s : State) → Ruling input a → b ≡ limited_by (length input) a → Headed b l s → Begins input l s
 headed-begins input a b l s w e h = go (ltb input_limit (length input)) refl
   where
     short : length input ≤ input_limit → a ≡ b → (s : State) → Headed b l s → Begins input l s
     short few q s (starts f p) = ready few (subst (Ruling input) (q ∙ f) w) p
     short few q s (ends x f p) = refuses few x (subst (Ruling input) (q ∙ f) w) p
 
-    over-long : input_limit < length input → (s : State) → Headed (A.Refused (record { number = 11; line = 0; offset = 0 })) l s → Begins input l s
+    over-long : input_limit < length input → (s : State) → Headed (Err (record { number = 11; line = 0; offset = 0 })) l s → Begins input l s
     over-long h s (starts f p) = absurd (let z : ◌≡◌ {A = ℕ} 0 1 = cc in omega arith)
     over-long h s (ends x f p) =
         let q : x ≡ record { number = 11; line = 0; offset = 0 } = cc in
@@ -80,38 +79,34 @@ headed-begins input a b l s w e h = go (ltb input_limit (length input)) refl
     go : (t : Bool) → ltb input_limit (length input) ≡ t → Begins input l s
     go true t =
         let k : input_limit < length input = ltb-true input_limit (length input) t in
-        over-long k s (subst (λ (x : Answer). Headed x l s) (e ∙ sym (limit-long (length input) a k)) h)
+        over-long k s (subst (λ (x : Result (Unit {0}) Refusal). Headed x l s) (e ∙ sym (limit-long (length input) a k)) h)
     go false t = let k : length input ≤ input_limit = ltb-false input_limit (length input) t in short k (limit-short (length input) a k ∙ sym e) s h
 
-pub open_done : (input : List ℕ) (p : Ruled) → Rules input p → (b : Answer) → b ≡ limited_by (length input) p.answer → (h : Line) (s : State) → Headed b h s
+pub open_done : (input : List ℕ) (p : Ruled) → Rules input p → (b : Result (Unit {0}) Refusal) → b ≡ limited_by (length input) p.answer → (h : Line) (s : State) → Headed b h s
     → (l : Laid) → Lays (rows_in p.told) (said_in p.told) (patterns_in p.told) (literals_in p.told) p.table l
     → Opens input (record { line = h; state = s; laid = l })
 open_done input p w b e h s x l y = record { begins = headed-begins input p.answer b h s w.ruled e x; read = p; rules = w; lays = y }
 
 -- ---- one answer
 
-line-one : (line : List ℕ) (l m : Line) → Prints line l.bytes l.len → Prints line m.bytes m.len → l ≡ m
-line-one line l m p q =
-    let w : (l.bytes ≡ m.bytes) × (l.len ≡ m.len) = prints-one p q in ap₂ (λ (b : List ℕ) (n : ℕ). record { bytes = b; len = n }) w.0 w.1
+refusal-one : (input : List ℕ) (x y : Refusal) → Ruling input (Err x) → Ruling input (Err y) → x ≡ y
+refusal-one input x y p q = let e : Err x ≡ Err y = ruled-one input (Err x) (Err y) p q in cc
 
-refusal-one : (input : List ℕ) (x y : Refusal) → Ruling input (A.Refused x) → Ruling input (A.Refused y) → x ≡ y
-refusal-one input x y p q = let e : A.Refused x ≡ A.Refused y = ruled-one input (A.Refused x) (A.Refused y) p q in cc
-
-never_both : (input : List ℕ) (x : Refusal) → Ruling input (A.Refused x) → Ruling input A.Ready → ⊥
-never_both input x p q = let e : A.Refused x ≡ A.Ready = ruled-one input (A.Refused x) A.Ready p q in let z : ◌≡◌ {A = ℕ} 0 1 = cc in omega arith
+never_both : (input : List ℕ) (x : Refusal) → Ruling input (Err x) → Ruling input (Ok tt) → ⊥
+never_both input x p q = let e : Err x ≡ (Ok tt) = ruled-one input (Err x) (Ok tt) p q in let z : ◌≡◌ {A = ℕ} 0 1 = cc in omega arith
 
 begins-one : (input : List ℕ) (l m : Line) (s t : State) → Begins input l s → Begins input m t → (l ≡ m) × (s ≡ t)
-begins-one input l m s t (long h p) (long g q) = (line-one (printed (refused (refusal 11 0))) l m p q, refl)
+begins-one input l m s t (long h p) (long g q) = (line-one l m p q, refl)
 begins-one input l m s t (long h p) (refuses g x w q) = absurd (omega arith)
 begins-one input l m s t (long h p) (ready g w q) = absurd (omega arith)
 begins-one input l m s t (refuses h x v p) (long g q) = absurd (omega arith)
 begins-one input l m s t (refuses h x v p) (refuses g y w q) =
     let e : y ≡ x = refusal-one input y x w v in
-    (line-one (printed (refused (meant x))) l m p (subst (λ (z : Refusal). Prints (printed (refused (meant z))) m.bytes m.len) e q), refl)
+    (line-one l m p (subst (λ (z : Refusal). Prints (printed (refused (meant z))) m.bytes m.len) e q), refl)
 begins-one input l m s t (refuses h x v p) (ready g w q) = absurd (never_both input x v w)
 begins-one input l m s t (ready h v p) (long g q) = absurd (omega arith)
 begins-one input l m s t (ready h v p) (refuses g x w q) = absurd (never_both input x w v)
-begins-one input l m s t (ready h v p) (ready g w q) = (line-one [] l m p q, refl)
+begins-one input l m s t (ready h v p) (ready g w q) = (line-one l m p q, refl)
 
 same_parts : {h i : Line} {s t : State} {l m : Laid} → h ≡ i → s ≡ t → l ≡ m
     → ◌≡◌ {A = Opened} (record { line = h; state = s; laid = l }) (record { line = i; state = t; laid = m })
@@ -155,12 +150,12 @@ module _ (input : List ℕ) (o : Opened) (opens : Opens input o) where
   sound : Sound l
   sound = lays_sound _ _ _ _ _ can l opens.lays
 
-  ruled-refuses : (x : Refusal) → Ruling input (A.Refused x) → Replies narrow input (refused (meant x))
-  ruled-refuses x w = refused-answers input p opens.rules x (ruled-one input p.answer (A.Refused x) opens.rules.ruled w)
+  ruled-refuses : (x : Refusal) → Ruling input (Err x) → Replies narrow input (refused (meant x))
+  ruled-refuses x w = refused-answers input p opens.rules x (ruled-one input p.answer (Err x) opens.rules.ruled w)
 
-  ready-prints : Ruling input A.Ready → length input ≤ input_limit → (room : ℕ → ℕ) (out : List ℕ) → PiecesOf room start_state out → BreachesPrints narrow input out
+  ready-prints : Ruling input (Ok tt) → length input ≤ input_limit → (room : ℕ → ℕ) (out : List ℕ) → PiecesOf room start_state out → BreachesPrints narrow input out
   ready-prints w few room out y =
-      let e : p.answer ≡ A.Ready = ruled-one input p.answer A.Ready opens.rules.ruled w in
+      let e : p.answer ≡ (Ok tt) = ruled-one input p.answer (Ok tt) opens.rules.ruled w in
       let s : Stands input p.told = ready-stands input p opens.rules e in
       let c : context_in l ≡ R.context_in p.told = lays-context _ _ _ _ _ can l opens.lays in
       let k : rule_in l ≡ R.clause_in p.told = lays-rule _ _ _ _ _ can l opens.lays in

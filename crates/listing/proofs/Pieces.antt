@@ -19,9 +19,8 @@ use Rattle.meaning.specs.Replies.{breach, none, reply_of, places_of, printed, co
 use Rattle.meaning.specs.Listing.{Goes, ends, goes, lines_of}
 use Rattle.search.specs.Finding.{found_by, later_by}
 use Rattle.reply_lines.proofs.Lines.{length-frame}
-use Rattle.listing.specs.declared.Stage.{Stage}
-use Rattle.listing.specs.declared.Stage.TheVariants.{Start, After, Done}
 use Rattle.listing.specs.declared.State.{State}
+use Rattle.listing.specs.declared.State.TheVariants.{Start, After, Done}
 use Rattle.listing.specs.Filling.{Fitted, start_state, state_after, comes_by, Comes, Runs, stops, waits, writes, Pieces, over, piece}
 use Rattle.listing.proofs.Lines.{found-sought, next-sought}
 use Rattle.listing.proofs.Filling.{stopped-comes, comes-one}
@@ -57,11 +56,11 @@ module _ (c : Context) (t : List ℕ) (k : Clause) where
   -- ---- the pieces are the list
 
   data Rest (bytes : List ℕ) (u : State) (l : List (List ℕ)) : Type 0 where
-    ended : u.stage ≡ Done → bytes ≡ lines_of l → Rest bytes u l
+    ended : u ≡ Done → bytes ≡ lines_of l → Rest bytes u l
     left : (r : Found) (m : List (List ℕ)) → Comes c t k u r → Goes onward r m → lines_of l ≡ bytes ++ lines_of m → Rest bytes u l
 
   -- nothing is written past the end
-  past_end : (n : ℕ) (s : State) (bytes : List ℕ) (u : State) → s.stage ≡ Done → Runs c t k n s bytes u → (bytes ≡ []) × (u.stage ≡ Done)
+  past_end : (n : ℕ) (s : State) (bytes : List ℕ) (u : State) → s ≡ Done → Runs c t k n s bytes u → (bytes ≡ []) × (u ≡ Done)
   past_end n s bytes u e (stops m z w) = (refl, refl)
   past_end n s bytes u e (waits m z r w h) = absurd (w.going e)
   past_end n s bytes u e (writes m z r w h b v g) = absurd (w.going e)
@@ -73,8 +72,8 @@ module _ (c : Context) (t : List ℕ) (k : Clause) where
   runs-rest n s bytes u r l (waits m z q w h) v g = left r l v g refl
   runs-rest n s bytes u r l (writes m z q w h b x y) v ends =
       let e : q ≡ nothing = comes-one c t k z q nothing w v in
-      let p : (b ≡ []) × (x.stage ≡ Done) =
-      past_end (m - length (printed (reply_of q))) (state_after q) b x (ap (λ (f : Found). (state_after f).stage) e) y in
+      let p : (b ≡ []) × (x ≡ Done) =
+      past_end (m - length (printed (reply_of q))) (state_after q) b x (ap state_after e) y in
       ended p.1 (ap₂ (λ (f : Found) (d : List ℕ). printed (reply_of f) ++ d) e p.0 ∙ append-nil (printed none))
   runs-rest n s bytes u r l (writes m z q w h b x y) v (goes a d g) =
       let e : q ≡ found a = comes-one c t k z q (found a) w v in
@@ -86,10 +85,10 @@ module _ (c : Context) (t : List ℕ) (k : Clause) where
           left i j p o
           (ap₂ (λ (i : Found) (j : List ℕ). printed (reply_of i) ++ j) (sym e) f ∙ sym (append_assoc (printed (reply_of q)) b (lines_of j)))
 
-  pub past-pieces : (room : ℕ → ℕ) (i : ℕ) (s : State) (out : List ℕ) → s.stage ≡ Done → Pieces c t k room i s out → out ≡ []
+  pub past-pieces : (room : ℕ → ℕ) (i : ℕ) (s : State) (out : List ℕ) → s ≡ Done → Pieces c t k room i s out → out ≡ []
   past-pieces room i s out e (over j z d) = refl
   past-pieces room i s out e (piece j z bytes u rest y p) =
-      let q : (bytes ≡ []) × (u.stage ≡ Done) = past_end (room j) z bytes u e y in
+      let q : (bytes ≡ []) × (u ≡ Done) = past_end (room j) z bytes u e y in
       ap₂ ◌++◌ q.0 (past-pieces room (suc j) u rest q.1 p)
 
   pub pieces-lines : (room : ℕ → ℕ) (i : ℕ) (s : State) (out : List ℕ) (r : Found) (l : List (List ℕ)) → Pieces c t k room i s out → Comes c t k s r
@@ -106,7 +105,7 @@ module _ (c : Context) (t : List ℕ) (k : Clause) where
 
   -- what a run of at least one line leaves: nothing, or a shorter list
   pub data Shorter (u : State) (l : List (List ℕ)) : Type 0 where
-    none_left : u.stage ≡ Done → Shorter u l
+    none_left : u ≡ Done → Shorter u l
     fewer : (r : Found) (m : List (List ℕ)) → Comes c t k u r → Goes onward r m → length m < length l → Shorter u l
 
   pub record Advance (n : ℕ) (s : State) (l : List (List ℕ)) : Type 0 where
@@ -153,12 +152,9 @@ module _ (c : Context) (t : List ℕ) (k : Clause) where
 
   comes-sought : (s : State) (a : List ℕ) → Comes c t k s (found a) → length a ≡ variables k.patterns
   unfolding comes_by
-  comes-sought s a w = go s.stage refl
-    where
-      go : (x : Stage) → s.stage ≡ x → length a ≡ variables k.patterns
-      go Start e = (found-sought c t k a (sym (rw e at w.what))).0
-      go After e = (next-sought c t k s.places a (sym (rw e at w.what))).0
-      go Done e = absurd (w.going e)
+  comes-sought Start a w = (found-sought c t k a (sym w.what)).0
+  comes-sought (After places) a w = (next-sought c t k places a (sym w.what)).0
+  comes-sought Done a w = absurd (w.going refl)
 
   pub line-short : (s : State) (r : Found) → Comes c t k s r → length (printed (reply_of r)) ≤ 13
   line-short s nothing w = none-short

@@ -8,19 +8,18 @@
 --     Fills                      the answer, and the lent space afterwards
 --     Pieces                     pieces joined, each with a room of its own, until nothing is left
 -- Assumes nothing.
-use Rattle.std.specs.Prelude.{Bool, true, false, List, [], ◌++◌, ◌≡◌, ℕ, suc, ◌-◌, ◌≤◌, ◌<◌, length, drop, replicate}
+use Rattle.std.specs.Prelude.{Bool, true, false, List, [], ◌++◌, ◌≡◌, ℕ, suc, ◌-◌, ◌≤◌, ◌<◌, length, drop}
 use Rattle.meaning.specs.Context.{Context}
 use Rattle.meaning.specs.Rules.{Clause, variables, Found, found, nothing}
 use Rattle.meaning.specs.Replies.{breach, reply_of, places_of, printed}
 use Rattle.meaning.specs.Formed.{Formed}
-use Rattle.runs.specs.Limits.{most_rows, most_variables, unused_place}
+use Rattle.runs.specs.Limits.{most_rows, most_variables}
 use Rattle.differing.specs.Knowing.{Knows}
 use Rattle.search.specs.Finding.{found_by, later_by}
 use Rattle.hunting.specs.Laid.{context_in, Sound}
 use Rattle.hunting.specs.declared.Laid.{Laid}
-use Rattle.listing.specs.declared.Stage.{Stage}
-use Rattle.listing.specs.declared.Stage.TheVariants.{Start, After, Done}
 use Rattle.listing.specs.declared.State.{State}
+use Rattle.listing.specs.declared.State.TheVariants.{Start, After, Done}
 use Rattle.listing.specs.declared.Filled.{Filled}
 
 pub record Fitted (c : Context) (k : Clause) : Type 0 where
@@ -35,30 +34,30 @@ pub record Lent (l : Laid) (known : List ℕ) : Type 0 where
 -- ---- states
 
 abbrev pub start_state : State
-start_state = record { stage = Start; places = replicate most_variables unused_place }
+start_state = Start
 
-abbrev pub done_by : Stage → Bool
+abbrev pub done_by : State → Bool
 done_by Start = false
-done_by After = false
+done_by (After places) = false
 done_by Done = true
 
 abbrev pub state_after : Found → State
-state_after (found a) = record { stage = After; places = places_of (breach a) }
-state_after nothing = record { stage = Done; places = replicate most_variables unused_place }
+state_after (found a) = After (places_of (breach a))
+state_after nothing = Done
 
 -- the first breach, the first after an assignment, and nothing more
-unfoldable pub comes_by : Context → List ℕ → Clause → Stage → List ℕ → Found
-comes_by c table k Start places = found_by c table k
-comes_by c table k After places = later_by c table k places
-comes_by c table k Done places = nothing
+unfoldable pub comes_by : Context → List ℕ → Clause → State → Found
+comes_by c table k Start = found_by c table k
+comes_by c table k (After places) = later_by c table k places
+comes_by c table k Done = nothing
 
 pub record Comes (c : Context) (table : List ℕ) (k : Clause) (s : State) (r : Found) : Type 0 where
   pub fitted : Fitted c k
-  pub going : s.stage ≡ Done → ⊥
-  pub what : r ≡ comes_by c table k s.stage s.places
+  pub going : s ≡ Done → ⊥
+  pub what : r ≡ comes_by c table k s
 
 pub record Stopped (s : State) : Type 0 where
-  pub done : s.stage ≡ Done
+  pub done : s ≡ Done
 
 -- ---- lines
 
@@ -77,6 +76,6 @@ pub record Fills (c : Context) (table : List ℕ) (k : Clause) (s : State) (lent
 
 -- the pieces from piece i on, where each has its own room
 pub data Pieces (c : Context) (table : List ℕ) (k : Clause) (room : ℕ → ℕ) : ℕ → State → List ℕ → Type 0 where
-  over : (i : ℕ) (s : State) → s.stage ≡ Done → Pieces c table k room i s []
+  over : (i : ℕ) (s : State) → s ≡ Done → Pieces c table k room i s []
   piece : (i : ℕ) (s : State) (bytes : List ℕ) (t : State) (rest : List ℕ) → Runs c table k (room i) s bytes t → Pieces c table k room (suc i) t rest
       → Pieces c table k room i s (bytes ++ rest)

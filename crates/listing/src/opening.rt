@@ -2,18 +2,10 @@
 ghost use Rattle.std.specs.Prelude.{◌≡◌};
 ghost use Rattle.listing.specs.Opening.{limited_by, Headed, Opens};
 
-use crate::{State, done, start};
+use crate::State;
 use hunting::Laid;
 use replies::{INPUT_LIMIT, Refusal};
 use reply_lines::{Line, no_line, refusal_line};
-use ruling::Answer;
-
-// The refusal's line, or none, and where the list begins.
-#[derive(Clone, Copy)]
-struct Head {
-    line: Line,
-    state: State,
-}
 
 // What the program prints first, and what the list is filled from. A refused input has a line and nothing to list.
 #[derive(Clone, Copy)]
@@ -24,34 +16,26 @@ pub struct Opened {
 }
 
 // Refusal 11 before everything else.
-fn limit(length: usize, answer: Answer) -> Answer
+fn limit(length: usize, answer: Result<(), Refusal>) -> Result<(), Refusal>
     ensures { result ≡ limited_by length answer }
 {
     if INPUT_LIMIT < length {
-        let x = Refusal {
+        return Err(Refusal {
             number: 11,
             line: 0,
             offset: 0,
-        };
-        return Answer::Refused(x);
+        });
     }
     answer
 }
 
-fn begin(answer: Answer) -> Head
-    ensures { Headed answer result.line result.state }
+// The refusal's line, or none, and where the list begins.
+fn begin(answer: Result<(), Refusal>) -> (Line, State)
+    ensures { Headed answer result.0 result.1 }
 {
     match answer {
-        Answer::Ready => {
-            let line = no_line();
-            let state = start();
-            Head { line, state }
-        }
-        Answer::Refused(x) => {
-            let line = refusal_line(x);
-            let state = done();
-            Head { line, state }
-        }
+        Ok(()) => (no_line(), State::Start),
+        Err(x) => (refusal_line(x), State::Done),
     }
 }
 
@@ -60,13 +44,7 @@ pub fn open(input: &[u8]) -> Opened
     ensures opens { Opens input.now result }
 {
     let p = ruling::rule(input);
-    let first = p.answer;
-    let answer = limit(input.len(), first);
-    let h = begin(answer);
-    let line = h.line;
-    let state = h.state;
-    let told = p.told;
-    let table = p.table;
-    let laid = finder::lay(told, table);
+    let (line, state) = begin(limit(input.len(), p.answer));
+    let laid = finder::lay(p.told, p.table);
     Opened { line, state, laid }
 }

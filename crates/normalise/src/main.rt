@@ -7,8 +7,8 @@ ghost use Rattle.meaning.specs.Replies.{NormalisePrints};
 ghost use Rattle.channels.specs.Taking.{Read};
 ghost use Rattle.channels.specs.Sending.{Delivers};
 
-use channels::input::{Got, input_space, take_input};
-use channels::output::{Sent, both, is_whole, put};
+use channels::input::{Unread, input_space, take_input};
+use channels::output::{Sent, put};
 use channels::telling::{FAILED, report, tell};
 
 // Hands over what has to be printed for an input, in two parts.
@@ -16,32 +16,25 @@ fn hand<'a>(rt: &(impl Print + Eprint), input: &'a [u8], text: &'a [u8], line: &
     requires { NormalisePrints narrow input.now (text.now ++ line.now) }
     ensures { Delivers (NormalisePrints narrow input.now) result }
 {
-    let first = put(rt, text);
-    if !is_whole(first) {
-        return first;
-    }
-    let then = put(rt, line);
-    both(first, then)
+    let first = put(rt, text)?;
+    let then = put(rt, line)?;
+    Ok(first.and(then))
 }
 
-fn answer(rt: &(impl Print + Eprint), got: Got, input: &[u8]) -> Sent
+fn answer(rt: &(impl Print + Eprint), got: Result<usize, Unread>, input: &[u8]) -> Sent
     requires { Read got input.now }
     ensures { Delivers (NormalisePrints narrow input.now) result }
 {
     let mut space = outputs::normal_space();
     let parts = outputs::normalise_prints(input, &mut space);
-    let text = parts.text;
-    let line = parts.line;
-    let bytes = line.bytes;
-    let len = line.len;
-    hand(rt, input, &space[..text], &bytes[..len])
+    hand(rt, input, &space[..parts.text], parts.line.as_bytes())
 }
 
 fn main(rt: HostRuntime) {
     let mut input = input_space();
     let got = take_input(&rt, &mut input);
     match got {
-        Got::Bytes(n) => report(&rt, answer(&rt, got, &input[..n])),
-        Got::Failed => tell(&rt, FAILED),
+        Ok(n) => report(&rt, answer(&rt, got, &input[..n])),
+        Err(_) => tell(&rt, FAILED),
     }
 }

@@ -5,12 +5,10 @@
 --     mine                                    what the functions above the writer leave to show
 -- Assumes nothing.
 use mathlib.Core.List.{List, [], ◌∷◌}
-use mathlib.Core.Path.{◌≡◌, refl, sym, ap, subst, ◌∙◌}
-use Prim.Native.Nat.{ℕ, suc, ◌+◌, ◌≤◌}
+use mathlib.Core.Path.{◌≡◌, refl, sym, ap, subst, subst₂, ◌∙◌}
+use Prim.Native.Nat.{ℕ, suc, ◌≤◌, ◌<◌}
 use native.Mathlib.Omega.{arith}
 use native.Mathlib.Numerals.{add-one}
-use mir.Syntax.{w16, w64}
-use mir.Val.{Fits}
 use borrow.Author.Rules.{rules}
 use lib.ListN.{length}
 use Rattle.meaning.specs.Context.{Context}
@@ -26,18 +24,16 @@ use Rattle.runs.proofs.Saying.{length-rows}
 use Rattle.replies.specs.Told.{meant}
 use Rattle.replies.specs.declared.Refusal.{Refusal}
 use Rattle.text_runs.specs.Reads.{told_by, told_of, read_of}
-use Rattle.text_runs.specs.declared.Answer.TheVariants as R
+use Rattle.std.specs.Prelude.{Some, None, Result, Ok, Err}
 use Rattle.text_runs.specs.declared.Told.{Told}
 use Rattle.classes.specs.Claims.{clashing}
-use Rattle.classes.specs.declared.Contradiction.TheVariants.{First, Clear}
 use Rattle.ruling.specs.Claims.{rows_in, said_in, context_in, ClosesText}
+use Rattle.ruling.specs.Order.{contradicted_by}
 use Rattle.ruling.specs.declared.Closed.{Closed}
-use Rattle.ruling.proofs.Saying.{part-long, rows_inside, said-inside, told-context, told_fit}
+use Rattle.ruling.proofs.Saying.{rows_inside, said-inside, told-context, told_fit}
 use Rattle.ruling.proofs.Ruling.{closed-low}
 use Rattle.normaliser.specs.Claims.{written_by, WritesNormal}
 use Rattle.normaliser.specs.Normals.{normal_text, Writable}
-use Rattle.normaliser.specs.declared.Written.{Written}
-use Rattle.normaliser.specs.declared.Written.TheVariants.{Wrote, Refused}
 
 module _ (text : List ℕ) (r : Closed) (h : ClosesText text r) where
   abbrev t : Told
@@ -48,13 +44,13 @@ module _ (text : List ℕ) (r : Closed) (h : ClosesText text r) where
 
   -- ---- refused
 
-  told_same : (x : Refusal) → t.answer ≡ R.Refused x → (y : M.Reading) → read narrow text ≡ y → x.number ∷ x.line ∷ x.offset ∷ [] ≡ told_of y
+  told_same : (x : Refusal) → t.answer ≡ Err x → (y : M.Reading) → read narrow text ≡ y → x.number ∷ x.line ∷ x.offset ∷ [] ≡ told_of y
   told_same x e y q = sym (ap told_by e) ∙ h.told.told ∙ ap told_of q
 
-  pub normalise-refused : (lent : List ℕ) (x : Refusal) → t.answer ≡ R.Refused x → Writes narrow text lent (written_by (Refused x)) lent
+  pub normalise-refused : (lent : List ℕ) (x : Refusal) → t.answer ≡ Err x → Writes narrow text lent (written_by (Err x)) lent
   normalise-refused lent x e = go (read narrow text) refl
     where
-      go : (y : M.Reading) → read narrow text ≡ y → Writes narrow text lent (written_by (Refused x)) lent
+      go : (y : M.Reading) → read narrow text ≡ y → Writes narrow text lent (written_by (Err x)) lent
       go (faulty f) q =
           let v : x.number ∷ x.line ∷ x.offset ∷ [] ≡ f.number ∷ f.place ∷ f.offset ∷ [] = told_same x e (faulty f) q in
           let n : x.number ≡ f.number = cc in
@@ -66,11 +62,8 @@ module _ (text : List ℕ) (r : Closed) (h : ClosesText text r) where
 
   -- ---- taken
 
-  pub clash-fits : (n : ℕ) → r.clash ≡ First n → Fits w64 (n + 1)
-  clash-fits n e = omega (arith, (closed-low text r h).low n e)
-
-  pub clash-short : (n : ℕ) → r.clash ≡ First n → Fits w16 (n + 1)
-  clash-short n e = omega (arith, (closed-low text r h).low n e)
+  pub clash-low : (n : ℕ) → r.clash ≡ Some n → n < most_statements
+  clash-low = (closed-low text r h).low
 
   pub normalise-rows : t.filled.rows ≤ length t.rows
   normalise-rows = rows_inside text t h.told
@@ -78,9 +71,10 @@ module _ (text : List ℕ) (r : Closed) (h : ClosesText text r) where
   pub normalise-said : t.filled.said ≤ length t.said
   normalise-said = said-inside text t h.told
 
-  pub normalise-writable : Writable (rows_in t) (said_in t) r.table
-  normalise-writable =
+  pub normalise-writable : (rs ss : List ℕ) → rs ≡ rows_in t → ss ≡ said_in t → Writable rs ss r.table
+  normalise-writable rs ss er es =
       let e = length-rows (rows_in t) in
+      rw (er, es)
       record {
         fit = fit;
         tabled = record {
@@ -89,9 +83,9 @@ module _ (text : List ℕ) (r : Closed) (h : ClosesText text r) where
         };
       }
 
-  module _ (whole : t.answer ≡ R.Taken) where
+  module _ (whole : t.answer ≡ Ok tt) where
     -- what is answered to the context that the runs say is answered to the text
-    settled-writes : (lent after : List ℕ) (w : Written) (n : Normalised) → Settled (context_in t) n → Leaves lent n (written_by w) after
+    settled-writes : (lent after : List ℕ) (w : Result ℕ Refusal) (n : Normalised) → Settled (context_in t) n → Leaves lent n (written_by w) after
         → Writes narrow text lent (written_by w) after
     settled-writes lent after w n s l = record { result = n; normalises = go (read narrow text) refl; leaves = l }
       where
@@ -103,44 +97,43 @@ module _ (text : List ℕ) (r : Closed) (h : ClosesText text r) where
             absurd (let v : [] ≡ f.number ∷ f.place ∷ f.offset ∷ [] = sym (ap told_by whole) ∙ h.told.told ∙ ap told_of q in
             let z : ◌≡◌ {A = ℕ} 0 1 = cc in omega arith)
 
-    pub normalise-clash : (lent : List ℕ) (n : ℕ) → r.clash ≡ First n
-        → Writes narrow text lent (written_by (Refused (record { number = 9; line = n + 1; offset = 0 }))) lent
-    normalise-clash lent n e =
-        settled-writes lent lent (Refused (record { number = 9; line = n + 1; offset = 0 })) (abnormal (refusal 9 (suc n)))
+    pub normalise-clash : (lent : List ℕ) (n : ℕ) → r.clash ≡ Some n → (x : Refusal) → x ≡ contradicted_by n → Writes narrow text lent (written_by (Err x)) lent
+    normalise-clash lent n e x q =
+        rw q
+        (settled-writes lent lent (Err (contradicted_by n)) (abnormal (refusal 9 (suc n)))
         (contradicts n (clash-first (context_in t) fit.fit (rep_at r.table) h.closed.rows n (sym h.clashes ∙ ap clashing e)))
-        (rw (add-one n) (stays (refusal 9 (suc n))))
+        (rw (add-one n) (stays (refusal 9 (suc n)))))
 
-    pub normalise-written : (lent after : List ℕ) (w : Written) → r.clash ≡ Clear → WritesNormal (rows_in t) (said_in t) r.table lent w after
-        → Writes narrow text lent (written_by w) after
+    pub normalise-written : (rs ss : List ℕ) → rs ≡ rows_in t → ss ≡ said_in t → (lent after : List ℕ) (w : Result ℕ Refusal) → r.clash ≡ None
+        → WritesNormal rs ss r.table lent w after → Writes narrow text lent (written_by w) after
     unfolding normal_text
-    normalise-written lent after w e l =
+    normalise-written rs ss er es lent after w e l =
         settled-writes lent after w (normal (normal_text (rows_in t) (said_in t) r.table))
-        (settles-by (context_in t) fit.fit (rep_at r.table) h.closed.rows (sym h.clashes ∙ ap clashing e)) l
+        (settles-by (context_in t) fit.fit (rep_at r.table) h.closed.rows (sym h.clashes ∙ ap clashing e))
+        (subst₂ (λ (a b : List ℕ). WritesNormal a b r.table lent w after) er es l)
 
 -- ---- one answer
 
-written-by-one : (r s : Written) → written_by r ≡ written_by s → r ≡ s
-written-by-one (Wrote n) (Wrote m) e = cc
-written-by-one (Wrote n) (Refused y) e = absurd (let z : ◌≡◌ {A = ℕ} 0 1 = cc in omega arith)
-written-by-one (Refused x) (Wrote m) e = absurd (let z : ◌≡◌ {A = ℕ} 0 1 = cc in omega arith)
-written-by-one (Refused x) (Refused y) e =
+written-by-one : (r s : Result ℕ Refusal) → written_by r ≡ written_by s → r ≡ s
+written-by-one (Ok n) (Ok m) e = cc
+written-by-one (Ok n) (Err y) e = absurd (let z : ◌≡◌ {A = ℕ} 0 1 = cc in omega arith)
+written-by-one (Err x) (Ok m) e = absurd (let z : ◌≡◌ {A = ℕ} 0 1 = cc in omega arith)
+written-by-one (Err x) (Err y) e =
     let q : meant x ≡ meant y = cc in
     let n : x.number ≡ y.number = ap (λ (r : M.Refusal). r.number) q in
     let l : x.line ≡ y.line = ap (λ (r : M.Refusal). r.place) q in
     let o : x.offset ≡ y.offset = ap (λ (r : M.Refusal). r.offset) q in
-    ap Refused (rw (n, l, o))
+    ap Err (rw (n, l, o))
 
-pub normalise-one : (text lent a b : List ℕ) (r s : Written) → Writes narrow text lent (written_by r) a → Writes narrow text lent (written_by s) b → (r ≡ s) × (a ≡ b)
+pub normalise-one : (text lent a b : List ℕ) (r s : Result ℕ Refusal) → Writes narrow text lent (written_by r) a → Writes narrow text lent (written_by s) b → (r ≡ s) × (a ≡ b)
 normalise-one text lent a b r s p q =
     let w : (written_by r ≡ written_by s) × (a ≡ b) = writes_one narrow text lent (written_by r) (written_by s) a b p q in
     (written-by-one r s w.0, w.1)
 
 pub ruleset mine = (
   rules,
-  part-long,
   normalise-refused,
-  clash-fits,
-  clash-short,
+  clash-low,
   normalise-clash,
   normalise-rows,
   normalise-said,

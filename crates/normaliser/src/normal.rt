@@ -9,9 +9,7 @@ ghost use Rattle.normaliser.specs.Rooms.{head_fields, pair_fields, line_length, 
 ghost use Rattle.normaliser.specs.Normals.{Writable, text_of, text_size, TextRoom, SpacesFit};
 ghost use Rattle.normaliser.specs.Claims.{WritesNormal};
 
-use crate::Written;
 use crate::keys::{first_of, second_of, sorted_keys};
-use casts::usize_of_u16;
 use replies::Refusal;
 use reply_lines::hex::{FIELDS, high, low, put_frame};
 use runs::limits::STATEMENTS;
@@ -55,9 +53,12 @@ fn put_row(rows: &[u16], i: usize, lent: &mut [u8], at: usize) -> usize
     requires { RowRoom rows.now i lent.old at }
     ensures { Put lent.old at (row_piece rows.now i) result lent.new }
 {
-    let fields = row_fields(rows, i);
-    let n = HEAD_FIELDS + count_in(rows, i);
-    put_frame(fields, n, lent, at)
+    put_frame(
+        row_fields(rows, i),
+        HEAD_FIELDS + count_in(rows, i),
+        lent,
+        at,
+    )
 }
 
 fn put_rows(rows: &[u16], lent: &mut [u8], at: usize) -> usize
@@ -65,12 +66,9 @@ fn put_rows(rows: &[u16], lent: &mut [u8], at: usize) -> usize
     requires room { Room lent.old at (row_lines rows.now) }
     ensures { Put lent.old at (row_lines rows.now) result lent.new }
 {
-    let n = row_count(rows);
     let mut to = at;
-    let mut i = 0;
-    while i < n {
+    for i in 0..row_count(rows) {
         to = put_row(rows, i, lent, to);
-        i += 1;
     }
     to
 }
@@ -87,12 +85,9 @@ fn rows_length(rows: &[u16]) -> usize
     requires { RowsFit rows.now }
     ensures { (result ≡ rows_size rows.now (row_count rows.now)) × (result ≤ most_rows * row_length) }
 {
-    let n = row_count(rows);
     let mut sum = 0;
-    let mut i = 0;
-    while i < n {
+    for i in 0..row_count(rows) {
         sum += row_length(rows, i);
-        i += 1;
     }
     sum
 }
@@ -104,7 +99,7 @@ fn put_join(table: &[u16], i: usize, lent: &mut [u8], at: usize) -> usize
     ensures { Put lent.old at (join_piece table.now i) result lent.new }
 {
     let p = table[i];
-    if usize_of_u16(p) == i {
+    if usize::from(p) == i {
         return at;
     }
     put_frame([2, low(p), byte(i), 0, 0, 0, 0, 0], PAIR_FIELDS, lent, at)
@@ -115,10 +110,8 @@ fn put_joins(table: &[u16], n: usize, lent: &mut [u8], at: usize) -> usize
     ensures { Put lent.old at (join_lines table.now n) result lent.new }
 {
     let mut to = at;
-    let mut i = 0;
-    while i < n {
+    for i in 0..n {
         to = put_join(table, i, lent, to);
-        i += 1;
     }
     to
 }
@@ -127,7 +120,7 @@ fn join_length(table: &[u16], i: usize) -> usize
     requires { i < length table.now }
     ensures { (result ≡ join_size table.now i) × (result ≤ pair_length) }
 {
-    if usize_of_u16(table[i]) == i { 0 } else { PAIR }
+    if usize::from(table[i]) == i { 0 } else { PAIR }
 }
 
 fn joins_length(table: &[u16], n: usize) -> usize
@@ -136,10 +129,8 @@ fn joins_length(table: &[u16], n: usize) -> usize
     ensures { (result ≡ joins_size table.now n) × (result ≤ most_rows * pair_length) }
 {
     let mut sum = 0;
-    let mut i = 0;
-    while i < n {
+    for i in 0..n {
         sum += join_length(table, i);
-        i += 1;
     }
     sum
 }
@@ -150,21 +141,17 @@ fn put_key(key: u32, lent: &mut [u8], at: usize) -> usize
     requires { LineRoom pair_fields at lent.old }
     ensures { Put lent.old at (key_line key) result lent.new }
 {
-    let p = low(first_of(key));
-    let q = low(second_of(key));
-    put_frame([3, p, q, 0, 0, 0, 0, 0], PAIR_FIELDS, lent, at)
+    let fields = [3, low(first_of(key)), low(second_of(key)), 0, 0, 0, 0, 0];
+    put_frame(fields, PAIR_FIELDS, lent, at)
 }
 
 fn put_keys(keys: &[u32], lent: &mut [u8], at: usize) -> usize
     requires { Room lent.old at (key_lines keys.now) }
     ensures { Put lent.old at (key_lines keys.now) result lent.new }
 {
-    let n = keys.len();
     let mut to = at;
-    let mut k = 0;
-    while k < n {
-        to = put_key(keys[k], lent, to);
-        k += 1;
+    for key in keys {
+        to = put_key(*key, lent, to);
     }
     to
 }
@@ -198,7 +185,7 @@ fn write_with(
     keys: &mut [u32],
     spare: &mut [u32],
     lent: &mut [u8],
-) -> Written
+) -> Result<usize, Refusal>
     requires writable { Writable rows.now said.now table.now }
     requires spaces_fit { SpacesFit said.now keys.old spare.old }
     ensures { WritesNormal rows.now said.now table.now lent.old result lent.new }
@@ -206,15 +193,14 @@ fn write_with(
     let n = sorted_keys(said, table, keys, spare);
     let length = text_length(rows, table, n);
     if lent.len() < length {
-        let x = Refusal {
+        return Err(Refusal {
             number: 10,
             line: 0,
             offset: 0,
-        };
-        return Written::Refused(x);
+        });
     }
     put_text(rows, table, &keys[..n], lent);
-    Written::Wrote(length)
+    Ok(length)
 }
 
 fn no_keys() -> [u32; STATEMENTS]
@@ -223,7 +209,12 @@ fn no_keys() -> [u32; STATEMENTS]
     [0; STATEMENTS]
 }
 
-pub(crate) fn write_normal(rows: &[u16], said: &[u16], table: &[u16], lent: &mut [u8]) -> Written
+pub(crate) fn write_normal(
+    rows: &[u16],
+    said: &[u16],
+    table: &[u16],
+    lent: &mut [u8],
+) -> Result<usize, Refusal>
     requires { Writable rows.now said.now table.now }
     ensures { WritesNormal rows.now said.now table.now lent.old result lent.new }
 {

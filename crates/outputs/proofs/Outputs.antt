@@ -30,8 +30,7 @@ use Rattle.replies.specs.Told.{meant}
 use Rattle.replies.specs.declared.Refusal.{Refusal}
 use Rattle.normaliser.specs.Claims.{written_by}
 use Rattle.reply_lines.specs.Prints.{Prints}
-use Rattle.normaliser.specs.declared.Written.{Written}
-use Rattle.normaliser.specs.declared.Written.TheVariants.{Wrote, Refused}
+use Rattle.std.specs.Prelude.{Result, Ok, Err}
 use Rattle.reply_lines.specs.declared.Line.{Line}
 use Rattle.reply_lines.proofs.Printing.{line-one}
 use Rattle.outputs.specs.Claims.{normal_limit, PartsOf, Answers, over, within, PrintsNormal}
@@ -41,17 +40,17 @@ pub output-over : (input space : List ℕ) (line : Line) → 16384 < length inpu
     → PrintsNormal input space (record { text = 0; line = line }) space
 output-over input space line h p = record { answer = unwritten (refusal 11 0); answers = over h; parts = (refl, p) }
 
-module _ (input space after : List ℕ) (line : Line) (few : length input ≤ 16384) (w : Written) (writes : Writes narrow input space (written_by w) after) where
-  pub output-wrote : (n : ℕ) → w ≡ Wrote n → Prints [] line.bytes line.len → PrintsNormal input space (record { text = n; line = line }) after
+module _ (input space after : List ℕ) (line : Line) (few : length input ≤ 16384) (w : Result ℕ Refusal) (writes : Writes narrow input space (written_by w) after) where
+  pub output-wrote : (n : ℕ) → w ≡ Ok n → Prints [] line.bytes line.len → PrintsNormal input space (record { text = n; line = line }) after
   output-wrote n e p =
-      record { answer = wrote n; answers = within few (wrote n) after (subst (λ (z : Written). Writes narrow input space (written_by z) after) e writes); parts = (refl, p) }
+      record { answer = wrote n; answers = within few (wrote n) after (subst (λ (z : Result ℕ Refusal). Writes narrow input space (written_by z) after) e writes); parts = (refl, p) }
 
-  pub output-refused : (x : Refusal) → w ≡ Refused x → Prints (printed (refused (meant x))) line.bytes line.len
+  pub output-refused : (x : Refusal) → w ≡ Err x → Prints (printed (refused (meant x))) line.bytes line.len
       → PrintsNormal input space (record { text = 0; line = line }) after
   output-refused x e p =
       record {
         answer = unwritten (meant x);
-        answers = within few (unwritten (meant x)) after (subst (λ (z : Written). Writes narrow input space (written_by z) after) e writes);
+        answers = within few (unwritten (meant x)) after (subst (λ (z : Result ℕ Refusal). Writes narrow input space (written_by z) after) e writes);
         parts = (refl, p);
       }
 

@@ -4,7 +4,6 @@
 ghost use Rattle.std.specs.Prelude.{◌≡◌, replicate};
 ghost use Rattle.outputs.specs.Claims.{normal_limit, PrintsFound, PrintsNormal};
 
-use normaliser::Written;
 use replies::INPUT_LIMIT;
 use reply_lines::{Line, no_line, over_line, refusal_line, reply_line};
 
@@ -26,9 +25,7 @@ pub fn find_prints(input: &[u8]) -> Line
         return over_line();
     }
     let r = finder::find(input);
-    let outcome = r.outcome;
-    let places = r.places;
-    reply_line(outcome, places)
+    reply_line(r.outcome, r.places)
 }
 
 // Space for any normal text.
@@ -43,18 +40,19 @@ pub fn normalise_prints(input: &[u8], space: &mut [u8]) -> Parts
     ensures prints { PrintsNormal input.now space.old result space.new }
 {
     if INPUT_LIMIT < input.len() {
-        let line = over_line();
-        return Parts { text: 0, line };
+        return Parts {
+            text: 0,
+            line: over_line(),
+        };
     }
-    let written = normaliser::normalise(input, space);
-    match written {
-        Written::Wrote(n) => {
-            let line = no_line();
-            Parts { text: n, line }
-        }
-        Written::Refused(x) => {
-            let line = refusal_line(x);
-            Parts { text: 0, line }
-        }
+    match normaliser::normalise(input, space) {
+        Ok(text) => Parts {
+            text,
+            line: no_line(),
+        },
+        Err(x) => Parts {
+            text: 0,
+            line: refusal_line(x),
+        },
     }
 }

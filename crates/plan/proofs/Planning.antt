@@ -1,6 +1,6 @@
 -- From well-formed columns to the plan, and that there is one plan alone.
 --     rule-fit, literals-named     what the steps ask
---     plan-made, plan-unfit        what the steps give is the plan; the answer where the columns are not well-formed
+--     plan-made                    what the steps give is the plan
 --     plans-one                    two answers that meet the contract are equal
 -- Assumes nothing.
 use mathlib.Core.Bool.{Bool, true, false}
@@ -17,10 +17,11 @@ use Rattle.meaning.specs.Columns.{patterns_from, literals_from, clause_from}
 use Rattle.meaning.specs.Values.{levels}
 use Rattle.columns.specs.Fit.{Every, NamedAt, Written, FitClause}
 use Rattle.columns.proofs.Flat.{fit-literals}
+use Rattle.std.specs.Prelude.{Option, Some}
 use Rattle.plan.specs.declared.Plan.{Plan}
 use Rattle.plan.specs.Planning.{RuleFit, Levelled, up_to, Arranged}
 use Rattle.plan.specs.Reach.{never}
-use Rattle.plan.specs.Plans.{Frees, Planned, unfit_plan, Plans, fits, unfits}
+use Rattle.plan.specs.Plans.{Frees, Planned, Plans, fits, unfits}
 use Rattle.plan.specs.Marks.{Named}
 use Rattle.plan.proofs.Levels.{levels-are}
 
@@ -44,10 +45,9 @@ module _ {shapes heads arities subs : List ℕ} {patterns : ℕ} {signs firsts s
       → vars ≡ variables (patterns_from shapes heads arities subs patterns)
       → Frees (clause_from shapes heads arities subs patterns signs firsts seconds literals) free → b ≡ never (literals_from signs firsts seconds literals)
       → Planned shapes heads arities subs patterns signs firsts seconds literals
-      (record { fit = true; variables = vars; levels = ls; order = order; ends = ends; free = free; never = b })
+      (record { variables = vars; levels = ls; order = order; ends = ends; free = free; never = b })
   plan-made w ls order ends free vars b l a v g n =
       record {
-        fit = refl;
         written = w;
         counted = v;
         levelled = l;
@@ -55,11 +55,6 @@ module _ {shapes heads arities subs : List ℕ} {patterns : ℕ} {signs firsts s
         frees = g;
         refuted = n;
       }
-
--- what is answered to columns that are not well-formed
-pub plan-unfit : {shapes heads arities subs : List ℕ} {patterns : ℕ} {signs firsts seconds : List ℕ} {literals : ℕ} {r : Plan} → r ≡ unfit_plan
-    → (FitClause shapes heads arities subs patterns signs firsts seconds literals → ⊥) → Plans shapes heads arities subs patterns signs firsts seconds literals r
-plan-unfit e n = rw e (unfits n)
 
 -- ---- two plans
 
@@ -86,20 +81,20 @@ module _ {ls order ends order' ends' : List ℕ} (x : Arranged ls order ends) (y
       go i true e = let l : i < length (up_to ls 5) = ltb-true i (length (up_to ls 5)) e in order-at x i l ∙ sym (order-at y i l)
       go i false e = let l : length (up_to ls 5) ≤ i = ltb-false i (length (up_to ls 5)) e in x.past i l ∙ sym (y.past i l)
 
-plan-same : (r s : Plan) → r.fit ≡ s.fit → r.variables ≡ s.variables → r.levels ≡ s.levels → r.order ≡ s.order → r.ends ≡ s.ends → r.free ≡ s.free
+plan-same : (r s : Plan) → r.variables ≡ s.variables → r.levels ≡ s.levels → r.order ≡ s.order → r.ends ≡ s.ends → r.free ≡ s.free
     → r.never ≡ s.never → r ≡ s
-plan-same r s a b c d e f g =
-    ap (λ x. record { fit = x; variables = r.variables; levels = r.levels; order = r.order; ends = r.ends; free = r.free; never = r.never }) a
-    ∙ rw (b, c, d, e, f, g)
+plan-same r s b c d e f g =
+    ap (λ x. record { variables = x; levels = r.levels; order = r.order; ends = r.ends; free = r.free; never = r.never }) b
+    ∙ rw (c, d, e, f, g)
 
 module _ {shapes heads arities subs : List ℕ} {patterns : ℕ} {signs firsts seconds : List ℕ} {literals : ℕ} where
   planned-one : {r s : Plan} → Planned shapes heads arities subs patterns signs firsts seconds literals r → Planned shapes heads arities subs patterns signs firsts seconds literals s → r ≡ s
   planned-one {r} {s} x y =
-      plan-same r s (x.fit ∙ sym y.fit) (x.counted ∙ sym y.counted) (levelled-one x.levelled y.levelled) (order-one x.arranged y.arranged)
+      plan-same r s (x.counted ∙ sym y.counted) (levelled-one x.levelled y.levelled) (order-one x.arranged y.arranged)
       (ends-one x.arranged y.arranged) (frees-one x.frees y.frees) (x.refuted ∙ sym y.refuted)
 
-  pub plans-one : {r s : Plan} → Plans shapes heads arities subs patterns signs firsts seconds literals r → Plans shapes heads arities subs patterns signs firsts seconds literals s → r ≡ s
-  plans-one (fits f x) (fits g y) = planned-one x y
+  pub plans-one : {r s : Option Plan} → Plans shapes heads arities subs patterns signs firsts seconds literals r → Plans shapes heads arities subs patterns signs firsts seconds literals s → r ≡ s
+  plans-one (fits f x) (fits g y) = ap Some (planned-one x y)
   plans-one (fits f x) (unfits n) = absurd (n f)
   plans-one (unfits n) (fits f x) = absurd (n f)
   plans-one (unfits n) (unfits m) = refl

@@ -2,7 +2,7 @@
 --     mark_at                   the mark of a row by those of its arguments
 --     Marked                   a mark for each row, and 0 past the last
 --     reaches, none_reaches     a side of a literal that is asked is marked; of none of the literals
---     Named                    literals that name pattern rows
+--     Named, NamedIn           literals that name pattern rows
 -- Assumes nothing.
 use Rattle.std.specs.Prelude.{Bool, true, false, not, ◌&&◌, ◌||◌, List, [], ◌∷◌, ◌≡◌, ℕ, ◌≤◌, eqb, length, get_or}
 use Rattle.meaning.specs.Rules.{Literal}
@@ -10,6 +10,7 @@ use Rattle.meaning.specs.Formed.{left_of, right_of}
 use Rattle.meaning.specs.Columns.{args_at}
 use Rattle.meaning.specs.Values.{highest}
 use Rattle.columns.specs.Fit.{Every, NamedAt}
+use Rattle.columns.specs.declared.Literals.{Literals}
 use Rattle.plan.specs.Reach.{idle}
 use Rattle.plan.specs.Plans.{mark_of}
 
@@ -31,3 +32,6 @@ none_reaches marks (l ∷ ls) = not (reaches marks l) && none_reaches marks ls
 pub record Named (firsts seconds : List ℕ) (literals : ℕ) : Type 0 where
   pub few : literals ≤ 16
   pub sides : Every literals (NamedAt firsts seconds 64)
+
+abbrev pub NamedIn : Literals → Type 0
+NamedIn l = Named l.lefts.now l.rights.now l.count

@@ -2,20 +2,21 @@
 #![tactic(auto)]
 
 ghost use Rattle.std.specs.Prelude.{◌≡◌};
-ghost use Rattle.columns.specs.Fit.{Written, FitClause};
-ghost use Rattle.plan.specs.Plans.{Planned, unfit_plan, Plans};
+ghost use Rattle.columns.specs.Lent.{WrittenIn, FitsRule};
+ghost use Rattle.plan.specs.Plans.{PlannedBy, PlansFor};
+
+use columns::Rule;
 
 mod arrange;
 mod level;
 mod mark;
 mod reach;
-mod size;
 
 // The levels of the pattern rows; the rows by level and then by row, those of level k from ends[k] up to ends[k + 1]; 1 for each variable that
-// no literal reaches, other than those that say p = p; and whether some literal says that p and p differ. All is 0 where the columns are not well-formed.
+// no literal reaches, other than those that say p = p; and whether some literal says that p and p differ.
+// Fixed memory, no heap: a number for each of 64 pattern rows.
 #[derive(Clone, Copy)]
 pub struct Plan {
-    pub fit: bool,
     pub variables: u8,
     pub levels: [u8; 64],
     pub order: [u8; 64],
@@ -24,46 +25,19 @@ pub struct Plan {
     pub never: bool,
 }
 
-fn unfit() -> Plan
-    ensures { result ≡ unfit_plan }
+fn planned(rule: &Rule) -> Plan
+    requires fit_clause { FitsRule rule.now }
+    requires written { WrittenIn rule.now.patterns }
+    ensures { PlannedBy rule.now result }
 {
-    Plan {
-        fit: false,
-        variables: 0,
-        levels: [0; 64],
-        order: [0; 64],
-        ends: [0; 6],
-        free: [0; 4],
-        never: false,
-    }
-}
-
-fn planned<'a>(
-    shapes: &'a [u8; 64],
-    heads: &'a [u16; 64],
-    arities: &'a [u8; 64],
-    subs: &'a [u16; 256],
-    patterns: usize,
-    signs: &'a [u8; 16],
-    firsts: &'a [u16; 16],
-    seconds: &'a [u16; 16],
-    literals: usize,
-) -> Plan
-    requires fit_clause { FitClause shapes.now heads.now arities.now subs.now patterns signs.now firsts.now seconds.now literals }
-    requires written { Written shapes.now heads.now arities.now subs.now patterns }
-    ensures { Planned shapes.now heads.now arities.now subs.now patterns signs.now firsts.now seconds.now literals result }
-{
-    let levels = level::levels(shapes, heads, arities, subs, patterns);
-    let arranged = arrange::arrange(&levels, patterns);
+    let levels = level::levels(&rule.patterns);
+    let arranged = arrange::arrange(&levels, rule.patterns.rows);
     let order = arranged.rows;
     let ends = arranged.ends;
-    let variables = level::variables(shapes, heads, arities, subs, patterns);
-    let free = reach::free(
-        shapes, heads, arities, subs, patterns, signs, firsts, seconds, literals,
-    );
-    let never = reach::never(signs, firsts, seconds, literals);
+    let variables = level::variables(&rule.patterns);
+    let free = reach::free(rule);
+    let never = reach::never(&rule.literals);
     Plan {
-        fit: true,
         variables,
         levels,
         order,
@@ -73,25 +47,12 @@ fn planned<'a>(
     }
 }
 
-pub fn plan_clause<'a>(
-    shapes: &'a [u8; 64],
-    heads: &'a [u16; 64],
-    arities: &'a [u8; 64],
-    subs: &'a [u16; 256],
-    patterns: usize,
-    signs: &'a [u8; 16],
-    firsts: &'a [u16; 16],
-    seconds: &'a [u16; 16],
-    literals: usize,
-) -> Plan
-    ensures { Plans shapes.now heads.now arities.now subs.now patterns signs.now firsts.now seconds.now literals result }
+// The plan, where the columns say a well-formed rule.
+pub fn plan_clause(rule: &Rule) -> Option<Plan>
+    ensures { PlansFor rule.now result }
 {
-    if !columns::fit_clause(
-        shapes, heads, arities, subs, patterns, signs, firsts, seconds, literals,
-    ) {
-        return unfit();
+    if !columns::fit_clause(rule) {
+        return None;
     }
-    planned(
-        shapes, heads, arities, subs, patterns, signs, firsts, seconds, literals,
-    )
+    Some(planned(rule))
 }

@@ -1,12 +1,13 @@
 // Which pattern rows have a variable in their terms: 1 for each that has, and 0.
 ghost use Rattle.std.specs.Prelude.{◌≡◌};
-ghost use Rattle.meaning.specs.Columns.{patterns_from};
+ghost use Rattle.columns.specs.Lent.{patterns_in};
 ghost use Rattle.meaning.specs.Pruning.{touches};
-ghost use Rattle.plan.specs.Planning.{RuleFit, RowFit};
+ghost use Rattle.plan.specs.Planning.{RuleFits, RowFits};
 ghost use Rattle.plan.specs.Plans.{mark_of};
 ghost use Rattle.plan.specs.Marks.{mark_at, Marked};
 
-use crate::level::{over_args, zeros};
+use crate::level::over_args;
+use columns::Patterns;
 
 // A truth value as a number.
 pub(crate) fn digit(b: bool) -> u8
@@ -16,40 +17,23 @@ pub(crate) fn digit(b: bool) -> u8
 }
 
 // The mark of row i by the marks of the rows before it: a symbol's is the highest of its arguments'.
-fn mark<'a>(
-    shapes: &'a [u8; 64],
-    heads: &'a [u16; 64],
-    arities: &'a [u8; 64],
-    subs: &'a [u16; 256],
-    marks: &'a [u8; 64],
-    v: u16,
-    i: usize,
-) -> u8
-    requires { RowFit shapes.now heads.now arities.now subs.now i }
-    ensures { result ≡ mark_at shapes.now heads.now arities.now subs.now marks.now v i }
+fn mark(patterns: &Patterns, marks: &[u8; 64], v: u16, i: usize) -> u8
+    requires { RowFits patterns.now i }
+    ensures { result ≡ mark_at patterns.now.kinds.now patterns.now.heads.now patterns.now.counts.now patterns.now.args.now marks.now v i }
 {
-    if shapes[i] == 4 {
-        return digit(heads[i] == v);
+    if patterns.kinds[i] == 4 {
+        return digit(patterns.heads[i] == v);
     }
-    over_args(arities, subs, marks, i)
+    over_args(patterns, marks, i)
 }
 
-pub(crate) fn marks<'a>(
-    shapes: &'a [u8; 64],
-    heads: &'a [u16; 64],
-    arities: &'a [u8; 64],
-    subs: &'a [u16; 256],
-    patterns: usize,
-    v: u16,
-) -> [u8; 64]
-    requires { RuleFit shapes.now heads.now arities.now subs.now patterns }
-    ensures { Marked (touches v (patterns_from shapes.now heads.now arities.now subs.now patterns)) result }
+pub(crate) fn marks(patterns: &Patterns, v: u16) -> [u8; 64]
+    requires { RuleFits patterns.now }
+    ensures { Marked (touches v (patterns_in patterns.now)) result }
 {
-    let mut marks = zeros();
-    let mut i = 0;
-    while i < patterns {
-        marks[i] = mark(shapes, heads, arities, subs, &marks, v, i);
-        i += 1;
+    let mut marks = [0; 64];
+    for i in 0..patterns.rows {
+        marks[i] = mark(patterns, &marks, v, i);
     }
     marks
 }

@@ -6,32 +6,26 @@ use std::fs::File;
 use std::io::Read;
 use std::rt::Files;
 use std::{env, io};
-use text_runs::Answer;
+use text_runs::Told;
 
 // No more bytes of a file are read.
 const MOST: u64 = 131072;
 
 // What the reader answers to one text.
 fn tell(rt: &impl Print, text: &[u8]) -> io::Result<()> {
-    let r = text_reader::read(text);
-    let answer = r.answer;
-    let filled = r.filled;
+    let Told { answer, filled, .. } = text_reader::read(text);
     match answer {
-        Answer::Refused(x) => {
-            println!(rt;
-                ": refused {}, line {}, byte {}",
-                x.number, x.line, x.offset
-            )
-        }
-        Answer::Taken => {
-            let rows = filled.rows / ROW;
-            let statements = filled.said / SAID;
-            let patterns = filled.patterns / PATTERN;
-            let literals = filled.literals / LITERAL;
-            println!(rt;
-                ": rows {rows}, statements {statements}, pattern rows {patterns}, literals {literals}"
-            )
-        }
+        Ok(()) => println!(rt;
+            ": rows {}, statements {}, pattern rows {}, literals {}",
+            filled.rows / ROW,
+            filled.said / SAID,
+            filled.patterns / PATTERN,
+            filled.literals / LITERAL
+        ),
+        Err(x) => println!(rt;
+            ": refused {}, line {}, byte {}",
+            x.number, x.line, x.offset
+        ),
     }
 }
 

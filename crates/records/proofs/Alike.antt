@@ -7,13 +7,11 @@
 --     closes-unread, finds-unread                      argument places from the count on change neither
 --     unread-classes, unread-reply                     so there is one for all that they may hold
 -- Assumes nothing.
-use mathlib.Core.Bool.{true, false}
 use mathlib.Core.List.{List, map}
 use mathlib.Core.Path.{◌≡◌, refl, sym, ap, ap₂, subst, ◌∙◌}
 use Prim.Native.Nat.{ℕ, ◌<◌}
 use native.Mathlib.Omega.{arith}
-use lib.Dec.{eqb}
-use lib.ListN.{length, get_or}
+use lib.ListN.{length}
 use lib.Seq.{ext_get_or}
 use Rattle.meaning.specs.Context.{Context}
 use Rattle.meaning.specs.Rules.{Clause}
@@ -31,55 +29,36 @@ use Rattle.classes.specs.declared.Classes.{Classes}
 use Rattle.replies.specs.Told.{told_of}
 use Rattle.records.specs.declared.Row.{Row}
 use Rattle.records.specs.declared.Statements.{Statements}
-use Rattle.records.specs.declared.finding.Outcome.{Outcome}
-use Rattle.records.specs.declared.finding.Outcome.TheVariants.{Breach, Clear, Refused, Unfit}
-use Rattle.records.specs.declared.finding.Reply.{Reply}
+use Rattle.std.specs.Prelude.{Option, Some, None}
+use Rattle.replies.specs.declared.Outcome.{Outcome}
+use Rattle.replies.specs.declared.Reply.{Reply}
+use Rattle.finder.proofs.Judging.{told-one}
 use Rattle.records.specs.Records.{row_of, context_of, FitRows}
 use Rattle.records.specs.Layouts.{list_of, rows_laid, said_laid, rule_of}
-use Rattle.records.specs.Claims.{ClosesRows, ClosedRows, ClosedTable, unfit_reply, told_by, FitRule, Judges, judged, unfit, FindsRuns, FindsTable, FindsRows}
+use Rattle.records.specs.Claims.{ClosesRows, ClosedRows, ClosedTable, FitRule, Judges, judged, unfit, FindsRuns, FindsTable, FindsRows}
 use Rattle.records.proofs.Layouts.{laid-context, laid-fit, fit-laid, unread}
 
 -- ---- one question asked twice
 
-pub judges-alike : (F G U Y : Type 0) (c d : Context) (k : Clause) (r : Reply) → (F → G) → (G → F) → (U → Y) → (Y → U) → (F → c ≡ d) → Judges F U c k r
+pub judges-alike : (F G U Y : Type 0) (c d : Context) (k : Clause) (r : Option Reply) → (F → G) → (G → F) → (U → Y) → (Y → U) → (F → c ≡ d) → Judges F U c k r
     → Judges G Y d k r
 judges-alike F G U Y c d k r f g u v e (judged p q m j z told places) = judged (f p) (u q) m (subst (λ (x : Context). Judged x k m) (e p) j) z told places
 judges-alike F G U Y c d k r f g u v e (unfit n) = unfit (λ p q. n (g p) (v q))
 
 -- ---- one reply
 
--- the outcome that is told so
-abbrev outcome_of : List ℕ → Outcome
-outcome_of l =
-    elim (eqb (get_or l 0 0) 8) [
-      | true ↦ Breach (get_or l 1 0)
-      | false ↦ elim (eqb (get_or l 0 0) 9) [
-        | true ↦ Clear
-        | false ↦ elim (eqb (get_or l 0 0) 10) [ true ↦ Refused (record { number = get_or l 1 0; line = get_or l 2 0; offset = get_or l 3 0 }) | false ↦ Unfit ]
-      ]
-    ]
-
-outcome-told : (x : Outcome) → outcome_of (told_by x) ≡ x
-outcome-told (Breach n) = refl
-outcome-told Clear = refl
-outcome-told (Refused x) = refl
-outcome-told Unfit = refl
-
-told-one : (x y : Outcome) → told_by x ≡ told_by y → x ≡ y
-told-one x y e = sym (outcome-told x) ∙ ap outcome_of e ∙ outcome-told y
-
-pub judges-one : (F U : Type 0) (c : Context) (k : Clause) (r s : Reply) → Judges F U c k r → Judges F U c k s → r ≡ s
+pub judges-one : (F U : Type 0) (c : Context) (k : Clause) (r s : Option Reply) → Judges F U c k r → Judges F U c k s → r ≡ s
 judges-one F U c k r s (judged p q m j x t l) (judged p' q' m' j' y t' l') =
     let e : m ≡ m' = judged-one c k m m' j j' in
-    ap₂ (λ (o : Outcome) (l : List ℕ). record { outcome = o; places = l }) (told-one x.outcome y.outcome (t ∙ ap told_of e ∙ sym t')) (l ∙ ap places_of e ∙ sym l')
+    ap₂ (λ (o : Outcome) (l : List ℕ). Some (record { outcome = o; places = l })) (told-one x.outcome y.outcome (t ∙ ap told_of e ∙ sym t')) (l ∙ ap places_of e ∙ sym l')
 judges-one F U c k r s (judged p q m j x t l) (unfit n) = absurd (n p q)
 judges-one F U c k r s (unfit n) (judged p q m j x t l) = absurd (n p q)
 judges-one F U c k r s (unfit n) (unfit n') = refl
 
-pub finds-runs-one : (rows said patterns literals : List ℕ) (r s : Reply) → FindsRuns rows said patterns literals r → FindsRuns rows said patterns literals s → r ≡ s
+pub finds-runs-one : (rows said patterns literals : List ℕ) (r s : Option Reply) → FindsRuns rows said patterns literals r → FindsRuns rows said patterns literals s → r ≡ s
 finds-runs-one rows said patterns literals r s p q = judges-one _ _ (R.context_of rows said) (R.clause_of patterns literals) r s p.judges q.judges
 
-pub finds-rows-one : (rows : List Row) (s : Statements) (k : ClauseColumns) (r t : Reply) → FindsRows rows s k r → FindsRows rows s k t → r ≡ t
+pub finds-rows-one : (rows : List Row) (s : Statements) (k : ClauseColumns) (r t : Option Reply) → FindsRows rows s k r → FindsRows rows s k t → r ≡ t
 finds-rows-one rows s k r t p q = judges-one (FitRows rows s) (FitRule k) (context_of rows s) (rule_of k) r t p.judges q.judges
 
 pub closed-rows-one : (rows : List Row) (s : Statements) (r t : Classes) → ClosedRows rows s r → ClosedRows rows s t → r ≡ t
@@ -101,8 +80,8 @@ module _ (rows : List Row) (many : most_rows < length rows) (s : Statements) whe
   many-unfit : FitRows rows s → ⊥
   many-unfit f = omega (arith, f.rows_few)
 
-  pub finds-over : (k : ClauseColumns) (r : Reply) → FindsRows rows s k r → r ≡ unfit_reply
-  finds-over k r p = finds-rows-one rows s k r unfit_reply p (record { judges = unfit (λ f q. many-unfit f) })
+  pub finds-over : (k : ClauseColumns) (r : Option Reply) → FindsRows rows s k r → r ≡ None
+  finds-over k r p = finds-rows-one rows s k r None p (record { judges = unfit (λ f q. many-unfit f) })
 
   pub closes-over : (a : Answer) (t : List ℕ) → ClosesRows rows s a t → a ≡ A.Unfit
   closes-over A.Closed t p = absurd (many-unfit p.0)
@@ -128,7 +107,7 @@ module _ (rows : List Row) (s : Statements) where
       go A.Closed t q = (fit-laid rows s q.0, subst (λ (d : Context). Promise d most_rows t) (sym (said-alike q.0)) q.1)
       go A.Unfit t q = (λ f. q.0 (laid-fit rows s f), q.1)
 
-  module _ (k : ClauseColumns) (r : Reply) where
+  module _ (k : ClauseColumns) (r : Option Reply) where
     pub finds-listed : FindsTable (list_of rows) s k r → FindsRows rows s k r
     finds-listed p =
         record {
@@ -150,7 +129,7 @@ module _ (rows : List Row) (s : Statements) where
 -- ---- what is not read
 
 module _ (rows rows' : List Row) (s : Statements) (e : map row_of rows ≡ map row_of rows') (c : map (λ r. r.count) rows ≡ map (λ r. r.count) rows') where
-  pub finds-unread : (k : ClauseColumns) (r : Reply) → FindsRows rows s k r → FindsRows rows' s k r
+  pub finds-unread : (k : ClauseColumns) (r : Option Reply) → FindsRows rows s k r → FindsRows rows' s k r
   finds-unread k r p =
       record {
         judges =
@@ -168,5 +147,5 @@ module _ (rows rows' : List Row) (s : Statements) (e : map row_of rows ≡ map r
   pub unread-classes : (r t : Classes) → ClosedRows rows s r → ClosedRows rows' s t → r ≡ t
   unread-classes r t p q = closed-rows-one rows' s r t (closes-unread r p) q
 
-  pub unread-reply : (k : ClauseColumns) (r t : Reply) → FindsRows rows s k r → FindsRows rows' s k t → r ≡ t
+  pub unread-reply : (k : ClauseColumns) (r t : Option Reply) → FindsRows rows s k r → FindsRows rows' s k t → r ≡ t
   unread-reply k r t p q = finds-rows-one rows' s k r t (finds-unread k r p) q

@@ -34,11 +34,13 @@ use Rattle.classes.specs.declared.Answer.{Answer}
 use Rattle.classes.specs.declared.Answer.TheVariants.{Closed, Unfit}
 use Rattle.records.specs.declared.Row.{Row}
 use Rattle.records.specs.declared.Statements.{Statements}
-use Rattle.records.specs.declared.finding.Outcome.TheVariants as O
-use Rattle.records.specs.declared.finding.Reply.{Reply}
+use Rattle.std.specs.Prelude.{Option, Some, None}
+use Rattle.finder.specs.Claims.{refused_with}
+use Rattle.replies.specs.declared.Outcome.TheVariants as O
+use Rattle.replies.specs.declared.Reply.{Reply}
 use Rattle.records.specs.Records.{no_row, row_of, context_of, FitRows}
 use Rattle.records.specs.Layouts.{list_of, told, joined, row_piece, rule_of}
-use Rattle.records.specs.Claims.{ClosedRows, ClosedTable, unfit_reply, refused_with, told_by, FitRule, Judges, judged, unfit, FindsTable, FindsRows}
+use Rattle.records.specs.Claims.{ClosedRows, ClosedTable, FitRule, Judges, judged, unfit, FindsTable, FindsRows}
 use Rattle.records.proofs.Alike.{finds-over, closes-listed, finds-listed}
 
 -- a, b and f(a, b)
@@ -110,28 +112,24 @@ some-unread s = refl
 abbrev pub unstated : Statements
 unstated = record { kinds = replicate 510 0; lefts = replicate 510 0; rights = replicate 510 0; count = 0 }
 
-abbrev number_of : Reply → ℕ
-number_of r = get_or (told_by r.outcome) 0 0
-
 -- ---- 256 records
 
 abbrev pub many : List Row
 many = replicate 256 no_row
 
-abbrev pub clear_reply : Reply
-clear_reply = record { outcome = O.Clear; places = replicate 4 255 }
+abbrev pub clear_reply : Option Reply
+clear_reply = Some (record { outcome = O.Clear; places = replicate 4 255 })
 
 too_many : 255 < length many
 too_many = omega (arith, length-replicate {A = Row} 256 no_row)
 
 pub no-clear-256 : (s : Statements) (k : ClauseColumns) → FindsRows many s k clear_reply → ⊥
-unfolding unfit_reply
-no-clear-256 s k p = omega (arith, ap number_of (finds-over many too_many s k clear_reply p))
+no-clear-256 s k p = let e : clear_reply ≡ None = finds-over many too_many s k clear_reply p in let z : ◌≡◌ {A = ℕ} 0 1 = cc in omega arith
 
 pub no-closed-256 : (s : Statements) (t : List ℕ) → ClosedRows many s (record { answer = Closed; table = t }) → ⊥
 no-closed-256 s t p = omega (arith, too_many, p.closes.0.rows_few)
 
-pub some-unfit-256 : (s : Statements) (k : ClauseColumns) → FindsRows many s k unfit_reply
+pub some-unfit-256 : (s : Statements) (k : ClauseColumns) → FindsRows many s k None
 some-unfit-256 s k = record { judges = unfit (λ f r. omega (arith, too_many, f.rows_few)) }
 
 -- ---- places that are not read
@@ -190,18 +188,12 @@ rule-fit =
           };
     }
 
-told-low : (m : M.Reply) → get_or (told_of m) 0 0 < 11
-told-low (breach a) = omega arith
-told-low none = omega arith
-told-low (refused r) = omega arith
-
-fit-unfit : (F G : Type 0) (c : Context) (k : Clause) (r : Reply) → F → G → r ≡ unfit_reply → Judges F G c k r → ⊥
-unfolding unfit_reply
-fit-unfit F G c k r f q e (judged f' q' m j z t l) = omega (arith, told-low m, ap (λ (l : List ℕ). get_or l 0 0) t, ap number_of e)
+fit-unfit : (F G : Type 0) (c : Context) (k : Clause) (r : Option Reply) → F → G → r ≡ None → Judges F G c k r → ⊥
+fit-unfit F G c k r f q e (judged f' q' m j z t l) = let z : ◌≡◌ {A = ℕ} 0 1 = cc in omega arith
 fit-unfit F G c k r f q e (unfit n) = n f q
 
-pub no-unfit-unread : FindsRows twins unstated no_clause unfit_reply → ⊥
-no-unfit-unread p = fit-unfit (FitRows twins unstated) (FitRule no_clause) (context_of twins unstated) (rule_of no_clause) unfit_reply twins-fit rule-fit refl p.judges
+pub no-unfit-unread : FindsRows twins unstated no_clause None → ⊥
+no-unfit-unread p = fit-unfit (FitRows twins unstated) (FitRule no_clause) (context_of twins unstated) (rule_of no_clause) None twins-fit rule-fit refl p.judges
 
 pub no-apart-unread : (a : Answer) (t : List ℕ) → rep_at t 1 ≡ 1 → ClosedRows twins unstated (record { answer = a; table = t }) → ⊥
 unfolding context_of terms grow pick
@@ -211,7 +203,7 @@ no-apart-unread Unfit t e p = p.closes.0 twins-fit
 abbrev eight : Refusal
 eight = record { number = 8; line = 0; offset = 0 }
 
-pub some-eight : FindsRows twins unstated no_clause (refused_with eight)
+pub some-eight : FindsRows twins unstated no_clause (Some (refused_with eight))
 unfolding refused_with places_of no_clause told joined R.literals_of each
 some-eight = record { judges = judged twins-fit rule-fit (refused (refusal 8 0)) (empty refl) (refused_with eight) refl refl }
 
@@ -240,8 +232,8 @@ no-clear-runs s k p = no-clear-256 s k (finds-listed many s k clear_reply p)
 pub no-closed-runs : (s : Statements) (t : List ℕ) → ClosedTable (list_of many) s (record { answer = Closed; table = t }) → ⊥
 no-closed-runs s t p = no-closed-256 s t (closes-listed many s (record { answer = Closed; table = t }) p)
 
-pub no-unfit-runs : FindsTable (list_of twins) unstated no_clause unfit_reply → ⊥
-no-unfit-runs p = no-unfit-unread (finds-listed twins unstated no_clause unfit_reply p)
+pub no-unfit-runs : FindsTable (list_of twins) unstated no_clause None → ⊥
+no-unfit-runs p = no-unfit-unread (finds-listed twins unstated no_clause None p)
 
 pub no-apart-runs : (a : Answer) (t : List ℕ) → rep_at t 1 ≡ 1 → ClosedTable (list_of twins) unstated (record { answer = a; table = t }) → ⊥
 no-apart-runs a t e p = no-apart-unread a t e (closes-listed twins unstated (record { answer = a; table = t }) p)

@@ -26,11 +26,12 @@ use Rattle.classes.specs.declared.Classes.{Classes}
 use Rattle.records.specs.declared.Row.{Row}
 use Rattle.records.specs.declared.Statements.{Statements}
 use Rattle.records.specs.declared.Table.{Table}
-use Rattle.records.specs.declared.finding.Reply.{Reply}
+use Rattle.std.specs.Prelude.{Option}
+use Rattle.replies.specs.declared.Reply.{Reply}
 use Rattle.records.specs.Records.{no_row}
 use Rattle.records.specs.Layouts.{told, least, joined, places_at, row_numbers, row_piece, said_piece, pattern_piece, literal_piece, rows_laid, said_laid, patterns_laid, literals_laid}
 use Rattle.records.specs.Claims.{ClosedTable, FindsRuns, FindsTable}
-use Rattle.records.proofs.Joining.{joined_length, told-all, told_over, told_more, least-all, least-over}
+use Rattle.records.proofs.Joining.{joined_length, told-all, told_over, told-min, least-all, least-over, least-min}
 
 -- the places of the runs, with room for one piece more than the most, and those for the arguments of a rule in columns
 abbrev row_space : ℕ
@@ -270,7 +271,7 @@ module _ (t : Table) (s : Statements) (a b : ℕ) (rows said : List ℕ) (ea : a
 
   pub find-laid : (k : ClauseColumns) (c d : ℕ) (patterns literals : List ℕ) → c ≡ told most_patterns k.patterns → d ≡ told most_literals k.literals
       → take (told most_patterns k.patterns * 7) patterns ≡ patterns_laid k → take (told most_literals k.literals * 3) literals ≡ literals_laid k
-      → (r : Reply) → FindsRuns (take (a * 6) rows) (take (b * 3) said) (take (c * 7) patterns) (take (d * 3) literals) r → FindsTable t s k r
+      → (r : Option Reply) → FindsRuns (take (a * 6) rows) (take (b * 3) said) (take (c * 7) patterns) (take (d * 3) literals) r → FindsTable t s k r
   find-laid k c d patterns literals ec ed ep el r h =
       record {
         finds =
@@ -285,10 +286,8 @@ module _ (t : Table) (s : Statements) (a b : ℕ) (rows said : List ℕ) (ea : a
 
 pub ruleset mine = (
   rules,
-  told-all,
-  told_more,
-  least-all,
-  least-over,
+  told-min,
+  least-min,
   rows_long,
   rows_start,
   rows-room,

@@ -25,7 +25,8 @@ use Rattle.classes.specs.declared.Answer.{Answer}
 use Rattle.classes.specs.declared.Answer.TheVariants as A
 use Rattle.records.specs.declared.Row.{Row}
 use Rattle.records.specs.declared.Statements.{Statements}
-use Rattle.records.specs.declared.finding.Reply.{Reply}
+use Rattle.std.specs.Prelude.{Option}
+use Rattle.replies.specs.declared.Reply.{Reply}
 use Rattle.records.specs.Records.{no_row, row_of, context_of, FitRows}
 use Rattle.records.specs.Layouts.{patterns_laid, literals_laid, rule_of}
 use Rattle.records.specs.Claims.{ClosesRows, FindsRuns, FindsRows}
@@ -125,7 +126,7 @@ module _ (rows said : List ℕ) where
   closes-gathered A.Closed t p = (fit-gather p.0, subst (λ (c : Context). Promise c most_rows t) gather-context p.1)
   closes-gathered A.Unfit t p = (λ f. p.0 (gather-fit f), p.1)
 
-  pub finds-gathered : (k : ClauseColumns) (r : Reply) → FindsRows (records_in rows) (stated_in said) k r
+  pub finds-gathered : (k : ClauseColumns) (r : Option Reply) → FindsRows (records_in rows) (stated_in said) k r
       → FindsRuns rows said (patterns_laid k) (literals_laid k) r
   finds-gathered k r p =
       record {

@@ -10,7 +10,11 @@ use Prim.Native.Nat.{ℕ, zero, suc, ◌+◌, ◌*◌, ◌≤◌, ◌<◌}
 use native.Mathlib.Nat.{suc-mul, mul-le-mul_right, zero-mul, eq-or-lt_of_le, le_of_suc-le-suc}
 use native.Mathlib.Numerals.{add-one}
 use native.Mathlib.Omega.{arith}
-use borrow.Author.Tests.{lt-ltb, le-ltb}
+use Rattle.std.specs.Prelude.{min}
+use Rattle.std.proofs.Math.Nat.{min-le_right, min-eq_left, min-eq_right}
+use mathlib.Core.Bool.{Bool, true, false}
+use lib.Dec.{ltb}
+use borrow.Author.Tests.{lt-ltb, le-ltb, ltb-true, ltb-false}
 use lib.ListN.{length, get_or, length-append, get_or-append}
 use lib.Seq.{get_or-append-add}
 use Rattle.meaning.specs.Context as M
@@ -72,3 +76,17 @@ module _ (most count : ℕ) where
   pub least-over : most < count → most ≡ least most count
   unfolding least
   least-over h = rw (lt-ltb most count h, least)
+
+  pub told-min : (r : ℕ) → r ≡ min count (most + 1) → (r ≡ told most count) × (r ≤ suc most)
+  told-min r e = (e ∙ go (ltb most count) refl, omega (arith, e, min-le_right count (most + 1)))
+    where
+      go : (b : Bool) → ltb most count ≡ b → min count (most + 1) ≡ told most count
+      go true t = let h : most < count = ltb-true most count t in let k : most + 1 ≤ count = omega arith in min-eq_right k ∙ told_more h
+      go false t = let h : count ≤ most = ltb-false most count t in let k : count ≤ most + 1 = omega arith in min-eq_left k ∙ told-all h
+
+  pub least-min : (r : ℕ) → r ≡ min count most → (r ≡ least most count) × (r ≤ most)
+  least-min r e = (e ∙ go (ltb most count) refl, omega (arith, e, min-le_right count most))
+    where
+      go : (b : Bool) → ltb most count ≡ b → min count most ≡ least most count
+      go true t = let h : most < count = ltb-true most count t in let k : most ≤ count = omega arith in min-eq_right k ∙ least-over h
+      go false t = let h : count ≤ most = ltb-false most count t in min-eq_left h ∙ least-all h

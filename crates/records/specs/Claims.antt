@@ -1,36 +1,29 @@
 -- What the closing and the finder over records claim of their answers.
 --     ClosesRows, ClosedRows                     a closing's answer to records and statements
 --     ClosedTable                                the same of a table by value, in runs
---     unfit_reply, refused_with, answered_with      the reply where something is not well-formed, a refusal, and the one that a search's answer gives
---     told_by                                     a reply's number and values, as the finder's
 --     FitRule                                    a rule is well-formed
---     Judges                                     the finder's reply to a context and a rule, where both are well-formed
+--     Judges                                     the finder's reply to a context and a rule, where both are well-formed, and none where not
 --     FindsRuns, FindsTable, FindsRows           the same of runs, of a table by value, and of records and statements
 -- Assumes nothing.
-use Rattle.std.specs.Prelude.{List, [], ◌∷◌, ◌≡◌, ℕ, replicate}
+use Rattle.std.specs.Prelude.{List, ◌≡◌, ℕ, Option, Some, None}
 use Rattle.meaning.specs.Context.{Context}
 use Rattle.meaning.specs.Rules.{Clause}
 use Rattle.meaning.specs.Equality.{Promise}
 use Rattle.meaning.specs.Replies as M
 use Rattle.meaning.specs.Replies.{places_of, Judged}
 use Rattle.runs.specs.Fit.{FitContext, FitClause}
-use Rattle.runs.specs.Limits.{most_rows, most_statements, most_variables, unused_place}
+use Rattle.runs.specs.Limits.{most_rows, most_statements}
 use Rattle.runs.specs.Runs as R
 use Rattle.records.specs.declared.ClauseColumns.{ClauseColumns}
-use Rattle.replies.specs.declared.Refusal.{Refusal}
-use Rattle.replies.specs.Told.{told_of}
+use Rattle.replies.specs.Told.{told_by, told_of}
+use Rattle.replies.specs.declared.Reply.{Reply}
 use Rattle.classes.specs.Claims.{Own, Closes}
 use Rattle.classes.specs.declared.Answer.{Answer}
 use Rattle.classes.specs.declared.Answer.TheVariants as A
 use Rattle.classes.specs.declared.Classes.{Classes}
-use Rattle.search.specs.declared.Kind.{Kind}
-use Rattle.search.specs.declared.Kind.TheVariants as S
 use Rattle.records.specs.declared.Row.{Row}
 use Rattle.records.specs.declared.Statements.{Statements}
 use Rattle.records.specs.declared.Table.{Table}
-use Rattle.records.specs.declared.finding.Outcome.{Outcome}
-use Rattle.records.specs.declared.finding.Outcome.TheVariants.{Breach, Clear, Refused, Unfit}
-use Rattle.records.specs.declared.finding.Reply.{Reply}
 use Rattle.records.specs.Records.{context_of, FitRows}
 use Rattle.records.specs.Layouts.{rows_laid, said_laid, patterns_laid, literals_laid, rule_of}
 
@@ -44,36 +37,19 @@ pub record ClosedRows (rows : List Row) (s : Statements) (r : Classes) : Type 0 
 pub record ClosedTable (t : Table) (s : Statements) (r : Classes) : Type 0 where
   pub closes : Closes most_rows most_statements (rows_laid t) (said_laid s) r.answer r.table
 
-unfoldable pub unfit_reply : Reply
-unfit_reply = record { outcome = Unfit; places = replicate most_variables unused_place }
-
-unfoldable pub refused_with : Refusal → Reply
-refused_with x = record { outcome = Refused x; places = replicate most_variables unused_place }
-
-abbrev pub answered_with : Kind → List ℕ → Reply
-answered_with (S.Breach n) places = record { outcome = Breach n; places = places }
-answered_with S.Clear places = record { outcome = Clear; places = places }
-answered_with S.Unfit places = record { outcome = Unfit; places = places }
-
-abbrev pub told_by : Outcome → List ℕ
-told_by (Breach n) = 8 ∷ n ∷ []
-told_by Clear = 9 ∷ []
-told_by (Refused x) = 10 ∷ x.number ∷ x.line ∷ x.offset ∷ []
-told_by Unfit = 11 ∷ []
-
 pub record FitRule (k : ClauseColumns) : Type 0 where
   pub fit : FitClause (patterns_laid k) (literals_laid k)
 
 -- F is that the context is well-formed, and G that the rule is
-pub data Judges (F G : Type 0) (c : Context) (k : Clause) : Reply → Type 0 where
-  judged : F → G → (m : M.Reply) → Judged c k m → (r : Reply) → told_by r.outcome ≡ told_of m → r.places ≡ places_of m → Judges F G c k r
-  unfit : (F → G → ⊥) → Judges F G c k unfit_reply
+pub data Judges (F G : Type 0) (c : Context) (k : Clause) : Option Reply → Type 0 where
+  judged : F → G → (m : M.Reply) → Judged c k m → (r : Reply) → told_by r.outcome ≡ told_of m → r.places ≡ places_of m → Judges F G c k (Some r)
+  unfit : (F → G → ⊥) → Judges F G c k None
 
-pub record FindsRuns (rows said patterns literals : List ℕ) (r : Reply) : Type 0 where
+pub record FindsRuns (rows said patterns literals : List ℕ) (r : Option Reply) : Type 0 where
   pub judges : Judges (FitContext most_rows most_statements rows said) (FitClause patterns literals) (R.context_of rows said) (R.clause_of patterns literals) r
 
-pub record FindsTable (t : Table) (s : Statements) (k : ClauseColumns) (r : Reply) : Type 0 where
+pub record FindsTable (t : Table) (s : Statements) (k : ClauseColumns) (r : Option Reply) : Type 0 where
   pub finds : FindsRuns (rows_laid t) (said_laid s) (patterns_laid k) (literals_laid k) r
 
-pub record FindsRows (rows : List Row) (s : Statements) (k : ClauseColumns) (r : Reply) : Type 0 where
+pub record FindsRows (rows : List Row) (s : Statements) (k : ClauseColumns) (r : Option Reply) : Type 0 where
   pub judges : Judges (FitRows rows s) (FitRule k) (context_of rows s) (rule_of k) r

@@ -1,11 +1,11 @@
 // Records, statements and a rule laid out in runs. A run has room for one piece more than the most, so that too many are told as too many.
+// No iterators: statements and a rule come in columns, as C hands them over, and one index serves them and the run.
 ghost use Rattle.std.specs.Prelude.{◌∷◌, ◌≡◌, suc, ◌+◌, ◌*◌, ◌≤◌, length, take};
 ghost use Rattle.runs.specs.Limits.{most_rows, most_statements, most_patterns, most_literals, row_size, said_size, pattern_size, literal_size, arg_places};
 ghost use Rattle.runs.specs.Runs.{put};
 ghost use Rattle.records.specs.Layouts.{told, least, places_at, rows_laid, said_laid, patterns_laid, literals_laid};
 
 use crate::{ClauseColumns, Statements, Table};
-use casts::u16_of_u8;
 use runs::limits::{LITERAL, LITERALS, PATTERN, PATTERNS, PLACES, ROW, ROWS, SAID, STATEMENTS};
 use runs::writing::{put_literal, put_pattern, put_row, put_said};
 
@@ -22,47 +22,36 @@ pub(crate) fn many(count: usize, most: usize) -> usize
     requires { most ≤ most_statements }
     ensures { (result ≡ told most count) × (result ≤ suc most) }
 {
-    if most < count {
-        return most + 1;
-    }
-    count
+    count.min(most + 1)
 }
 
 // How many there are, or the most.
 fn few(count: usize, most: usize) -> usize
     ensures { (result ≡ least most count) × (result ≤ most) }
 {
-    if most < count {
-        return most;
-    }
-    count
+    count.min(most)
 }
 
 pub(crate) fn rows_run(t: Table) -> [u16; ROW_SPACE]
     ensures { take (told most_rows t.count * row_size) result ≡ rows_laid t }
 {
     let rows = t.rows;
-    let n = few(t.count, ROWS);
     let mut run = [0; ROW_SPACE];
-    let mut i = 0;
-    while i < n {
+    for i in 0..few(t.count, ROWS) {
         let row = rows[i];
         let places = [row.args[0], row.args[1], row.args[2], row.args[3]];
-        put_row(&mut run, i, row.symbol, u16_of_u8(row.count), places);
-        i += 1;
+        put_row(&mut run, i, row.symbol, u16::from(row.count), places);
     }
     run
 }
 
+// Beside literals_run: the columns and the capacities are those of two structs of C.
 pub(crate) fn said_run(s: Statements) -> [u16; SAID_SPACE]
     ensures { take (told most_statements s.count * said_size) result ≡ said_laid s }
 {
-    let n = few(s.count, STATEMENTS);
     let mut run = [0; SAID_SPACE];
-    let mut i = 0;
-    while i < n {
-        put_said(&mut run, i, u16_of_u8(s.kinds[i]), s.lefts[i], s.rights[i]);
-        i += 1;
+    for i in 0..few(s.count, STATEMENTS) {
+        put_said(&mut run, i, u16::from(s.kinds[i]), s.lefts[i], s.rights[i]);
     }
     run
 }
@@ -81,19 +70,16 @@ fn put_columns(run: &mut [u16], i: usize, kind: u8, head: u16, count: u8, places
     requires { i * pattern_size + pattern_size ≤ length run.old }
     ensures { run.new ≡ put pattern_size run.old i (kind ∷ head ∷ count ∷ places) }
 {
-    put_pattern(run, i, u16_of_u8(kind), head, u16_of_u8(count), places);
+    put_pattern(run, i, u16::from(kind), head, u16::from(count), places);
 }
 
 pub(crate) fn patterns_run(k: ClauseColumns) -> [u16; PATTERN_SPACE]
     ensures { take (told most_patterns k.patterns * pattern_size) result ≡ patterns_laid k }
 {
-    let n = few(k.patterns, PATTERNS);
     let mut run = [0; PATTERN_SPACE];
-    let mut i = 0;
-    while i < n {
+    for i in 0..few(k.patterns, PATTERNS) {
         let places = places_at(&k.args, i);
         put_columns(&mut run, i, k.kinds[i], k.heads[i], k.counts[i], places);
-        i += 1;
     }
     run
 }
@@ -101,12 +87,9 @@ pub(crate) fn patterns_run(k: ClauseColumns) -> [u16; PATTERN_SPACE]
 pub(crate) fn literals_run(k: ClauseColumns) -> [u16; LITERAL_SPACE]
     ensures { take (told most_literals k.literals * literal_size) result ≡ literals_laid k }
 {
-    let n = few(k.literals, LITERALS);
     let mut run = [0; LITERAL_SPACE];
-    let mut i = 0;
-    while i < n {
-        put_literal(&mut run, i, u16_of_u8(k.signs[i]), k.lefts[i], k.rights[i]);
-        i += 1;
+    for i in 0..few(k.literals, LITERALS) {
+        put_literal(&mut run, i, u16::from(k.signs[i]), k.lefts[i], k.rights[i]);
     }
     run
 }

@@ -12,8 +12,9 @@ ghost use Rattle.records.specs.Layouts.{room, list_of};
 ghost use Rattle.records.specs.Claims.{ClosedTable, FindsTable, FindsRows, ClosedRows};
 
 use classes::Classes;
-use finding::{Reply, find_runs};
+use finding::find_runs;
 use laying::{literals_run, many, patterns_run, rows_run, said_run};
+use replies::Reply;
 use runs::limits::{LITERAL, LITERALS, PATTERN, PATTERNS, PLACES, ROW, ROWS, SAID, STATEMENTS};
 
 // A symbol, how many arguments, and four places for them, of which those from the count on are not read.
@@ -26,6 +27,7 @@ pub struct Row {
 }
 
 // Statements with their kind, 2 or 3, in order; how many.
+// The C interface has these columns.
 #[repr(C)]
 #[derive(Clone, Copy)]
 pub struct Statements {
@@ -39,6 +41,7 @@ pub struct Statements {
 const SUBS: usize = PATTERNS * PLACES;
 
 // A rule in columns: pattern rows with their kind, 4 or 5, a head, a count and four places for arguments; literals with their kind, 6 or 7; how many of each.
+// The C interface has these columns.
 #[repr(C)]
 #[derive(Clone, Copy)]
 pub struct ClauseColumns {
@@ -54,6 +57,7 @@ pub struct ClauseColumns {
 }
 
 // Records by value, unused places blank; how many.
+// Fixed memory, no heap: an array, and how many of its places are told.
 #[derive(Clone, Copy)]
 pub struct Table {
     pub rows: [Row; ROWS],
@@ -64,10 +68,7 @@ pub struct Table {
 fn within(n: usize) -> usize
     ensures { result ≡ room n }
 {
-    if ROWS < n {
-        return 0;
-    }
-    n
+    if ROWS < n { 0 } else { n }
 }
 
 fn blank() -> [Row; ROWS]
@@ -88,11 +89,7 @@ fn copied(rows: &[Row], n: usize, to: [Row; ROWS]) -> [Row; ROWS]
     ensures { result ≡ take n rows.now ++ drop n to }
 {
     let mut all = to;
-    let mut i = 0;
-    while i < n {
-        all[i] = rows[i];
-        i += 1;
-    }
+    all[..n].copy_from_slice(&rows[..n]);
     all
 }
 
@@ -101,10 +98,10 @@ pub fn listed(rows: &[Row]) -> Table
     ensures { result ≡ list_of rows.now }
 {
     let count = rows.len();
-    let n = within(count);
-    let none = blank();
-    let rows = copied(rows, n, none);
-    Table { rows, count }
+    Table {
+        rows: copied(rows, within(count), blank()),
+        count,
+    }
 }
 
 // The representatives of the rows of a table.
@@ -118,8 +115,8 @@ pub(crate) fn close_table(t: Table, s: Statements) -> Classes
     classes::close(&rows[..n], &said[..m])
 }
 
-// The first breach of a rule in a table.
-pub(crate) fn find_table(t: Table, s: Statements, k: ClauseColumns) -> Reply
+// The first breach of a rule in a table, none, a refusal, or no reply.
+pub(crate) fn find_table(t: Table, s: Statements, k: ClauseColumns) -> Option<Reply>
     ensures finds { FindsTable t s k result }
 {
     let n = many(t.count, ROWS) * ROW;
@@ -137,14 +134,12 @@ pub(crate) fn find_table(t: Table, s: Statements, k: ClauseColumns) -> Reply
 pub fn close(rows: &[Row], s: Statements) -> Classes
     ensures closes { ClosedRows rows.now s result }
 {
-    let t = listed(rows);
-    close_table(t, s)
+    close_table(listed(rows), s)
 }
 
-// The first breach of a rule, none, refusal 8 or 9, or unfit.
-pub fn find(rows: &[Row], s: Statements, k: ClauseColumns) -> Reply
+// The first breach of a rule, none, or refusal 8 or 9. There is no reply where something is not well-formed.
+pub fn find(rows: &[Row], s: Statements, k: ClauseColumns) -> Option<Reply>
     ensures finds { FindsRows rows.now s k result }
 {
-    let t = listed(rows);
-    find_table(t, s, k)
+    find_table(listed(rows), s, k)
 }

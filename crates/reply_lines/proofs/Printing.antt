@@ -3,15 +3,16 @@
 -- Assumes nothing.
 use mathlib.Core.List.{List, [], ◌∷◌, ◌++◌, map}
 use mathlib.Core.Bool.{Bool, true, false}
-use mathlib.Core.Path.{◌≡◌, refl, sym, ap, ap₂, subst, ◌∙◌}
+use mathlib.Core.Path.{◌≡◌, refl, sym, ap, subst, ◌∙◌}
 use Prim.Native.Nat.{ℕ, zero, suc, ◌+◌, ◌-◌, ◌/◌, ◌≤◌, min}
 use native.Mathlib.Nat.{zero-add}
 use native.Mathlib.Omega.{arith}
 use borrow.Author.Rules.{rules}
-use lib.ListN.{length, get_or, take, drop, replicate, length-map, length-take}
+use lib.ListN.{length, get_or, take, drop, replicate, length-map, length-take, length-replicate}
 use lib.Dec.{ltb}
 use borrow.Author.Tests.{ltb-true, ltb-false}
 use lib.Seq.{length-take-le, take_all, take-nil}
+use Rattle.std.proofs.Math.Bridge.{le_prop}
 use Rattle.meaning.specs.Writing.{frame}
 use Rattle.meaning.specs.Replies.{breach, none, refused, printed, code_of, values_of}
 use Rattle.replies.specs.Told.{meant}
@@ -21,15 +22,22 @@ use Rattle.replies.specs.declared.Outcome.TheVariants as O
 use Rattle.reply_lines.specs.Pieces.{low8, Put, LineRoom}
 use Rattle.reply_lines.specs.Prints.{Prints, line_by}
 use Rattle.reply_lines.specs.declared.Line.{Line}
-use Rattle.reply_lines.proofs.Stores.{put_whole}
+use Rattle.reply_lines.proofs.Stores.{put-length, put_whole}
 use Rattle.reply_lines.proofs.Lines.{length-frame}
 
 pub prints-one : {line a b : List ℕ} {m n : ℕ} → Prints line a m → Prints line b n → (a ≡ b) × (m ≡ n)
 prints-one p q = (p.front ∙ sym q.front, p.size ∙ sym q.size)
 
+-- the bytes and the length are the line
+same_line : (r : Line) (bytes : List ℕ) → r.bytes ≡ bytes → (len : ℕ) → r.len ≡ len → (within : len ≤ length bytes) → r ≡ record { bytes = bytes; len = len; within = within }
+same_line r bytes e =
+    subst (λ (b : List ℕ). (len : ℕ) → r.len ≡ len → (within : len ≤ length b) → r ≡ record { bytes = b; len = len; within = within }) e
+    (λ len f.
+    subst (λ (n : ℕ). (within : n ≤ length r.bytes) → r ≡ record { bytes = r.bytes; len = n; within = within }) f
+    (λ within. ap (λ (w : r.len ≤ length r.bytes). record { bytes = r.bytes; len = r.len; within = w }) (le_prop r.within within)))
+
 pub line-one : {line : List ℕ} (r s : Line) → Prints line r.bytes r.len → Prints line s.bytes s.len → r ≡ s
-line-one r s p q =
-    let w : (r.bytes ≡ s.bytes) × (r.len ≡ s.len) = prints-one p q in ap₂ (λ (b : List ℕ) (n : ℕ). record { bytes = b; len = n }) w.0 w.1
+line-one r s p q = let w : (r.bytes ≡ s.bytes) × (r.len ≡ s.len) = prints-one p q in same_line r s.bytes w.0 s.len w.1 s.within
 
 pub line-room : (n m : ℕ) → m ≡ min n 8 → LineRoom m 0 (replicate 32 0)
 line-room n m h = record { few = omega arith; room = omega arith }
@@ -58,6 +66,10 @@ line-printed fields bytes n m len e h d =
   where
     small : length (frame (take m fields)) ≤ 32
     small = omega (arith, length-frame (take m fields), length-take-le m fields (omega arith))
+
+pub line-within : (fields bytes : List ℕ) (m len : ℕ) → length fields ≡ 8 → m ≤ 8 → Put (replicate 32 0) 0 (frame (take m fields)) len bytes → len ≤ length bytes
+line-within fields bytes m len e h d =
+    omega (arith, d.place, put-length d, length-frame (take m fields), length-take-le m fields (omega arith), length-replicate {A = ℕ} 32 0)
 
 -- ---- a breach of up to four variables
 
@@ -119,4 +131,4 @@ pub outcome-refused : (o : Outcome) (x : Refusal) (places : List ℕ) (l : Line)
     → Prints (line_by o places) l.bytes l.len
 outcome-refused o x places l e p = rw e p
 
-pub ruleset mine = (rules, line-room, line-printed, breach-printed, none-printed, refusal-printed, outcome-breach, outcome-clear, outcome-refused)
+pub ruleset mine = (rules, line-room, line-within, line-printed, breach-printed, none-printed, refusal-printed, outcome-breach, outcome-clear, outcome-refused)

@@ -11,21 +11,21 @@ pub const FIELDS: usize = 8;
 pub fn low(x: u16) -> u8
     ensures { result ≡ low8 x }
 {
-    (x % 256) as u8
+    x.to_be_bytes()[1]
 }
 
 // A number's high byte.
 pub fn high(x: u16) -> u8
     ensures { result ≡ x / 256 }
 {
-    (x / 256) as u8
+    x.to_be_bytes()[0]
 }
 
 fn digit(v: u8) -> u8
     requires { v < 16 }
     ensures { result ≡ digit_of v }
 {
-    if v < 10 { 48 + v } else { 55 + v }
+    if v < 10 { b'0' + v } else { b'A' + (v - 10) }
 }
 
 // A byte as two digits.
@@ -42,13 +42,10 @@ pub fn put_frame(fields: [u8; FIELDS], n: usize, lent: &mut [u8], at: usize) -> 
     requires { LineRoom n at lent.old }
     ensures { Put lent.old at (frame (take n fields)) result lent.new }
 {
-    let mut k = 0;
-    let mut to = at;
-    while k < n {
-        put_byte(fields[k], lent, to);
-        to += 2;
-        k += 1;
+    for (k, field) in fields[..n].iter().enumerate() {
+        put_byte(*field, lent, at + 2 * k);
     }
-    lent[to] = 10;
-    to + 1
+    let end = at + 2 * n;
+    lent[end] = b'\n';
+    end + 1
 }

@@ -3,40 +3,42 @@
 
 pub mod hex;
 
-ghost use Rattle.std.specs.Prelude.{◌≡◌, [], map, min, take};
+ghost use Rattle.std.specs.Prelude.{◌≡◌, ◌≤◌, [], length, map, take};
 ghost use Rattle.meaning.specs.Writing.{frame};
 ghost use Rattle.meaning.specs.Replies.{breach, none, refused, refusal, printed};
 ghost use Rattle.replies.specs.Told.{meant};
 ghost use Rattle.reply_lines.specs.Pieces.{low8};
 ghost use Rattle.reply_lines.specs.Prints.{Prints, line_by};
 
-use casts::usize_of_u8;
 use hex::{FIELDS, high, low, put_frame};
 use replies::{Outcome, Refusal};
 
 // Bytes enough for the line of any reply.
 pub const LINE_SPACE: usize = 32;
 
-// The first `len` bytes are the line, and the others are 0.
+// The first `len` bytes are the line, and the others are 0. The bytes are an array, since nothing is allocated.
 #[derive(Clone, Copy)]
 pub struct Line {
     pub bytes: [u8; LINE_SPACE],
     pub len: usize,
+    pub ghost within: { len ≤ length bytes },
 }
 
-fn least(n: usize, most: usize) -> usize
-    ensures { result ≡ min n most }
-{
-    if n < most { n } else { most }
+impl Line {
+    // The line alone.
+    pub fn as_bytes(&self) -> &[u8]
+        ensures { result.now ≡ take self.now.len self.now.bytes }
+    {
+        &self.bytes[..self.len]
+    }
 }
 
 // The line of some fields, of which there are eight at most.
 pub fn line_of(fields: [u8; FIELDS], n: usize) -> Line
     ensures { Prints (frame (take n fields)) result.bytes result.len }
 {
-    let m = least(n, FIELDS);
     let mut bytes = [0; LINE_SPACE];
-    let len = put_frame(fields, m, &mut bytes, 0);
+    let len = put_frame(fields, n.min(FIELDS), &mut bytes, 0);
     Line { bytes, len }
 }
 
@@ -44,7 +46,7 @@ pub fn line_of(fields: [u8; FIELDS], n: usize) -> Line
 pub fn breach_line(n: usize, rows: [u16; 4]) -> Line
     ensures { Prints (printed (breach (map low8 (take n rows)))) result.bytes result.len }
 {
-    let m = least(n, 4);
+    let m = n.min(4);
     let fields = [
         8,
         m as u8,
@@ -68,15 +70,13 @@ pub fn none_line() -> Line
 pub fn refusal_line(x: Refusal) -> Line
     ensures { Prints (printed (refused (meant x))) result.bytes result.len }
 {
-    let place = x.line;
-    let offset = x.offset;
     let fields = [
         10,
         x.number,
-        high(place),
-        low(place),
-        high(offset),
-        low(offset),
+        high(x.line),
+        low(x.line),
+        high(x.offset),
+        low(x.offset),
         0,
         0,
     ];
@@ -87,12 +87,11 @@ pub fn refusal_line(x: Refusal) -> Line
 pub fn over_line() -> Line
     ensures { Prints (printed (refused (refusal 11 0))) result.bytes result.len }
 {
-    let x = Refusal {
+    refusal_line(Refusal {
         number: 11,
         line: 0,
         offset: 0,
-    };
-    refusal_line(x)
+    })
 }
 
 // No line at all.
@@ -110,7 +109,7 @@ pub fn reply_line(outcome: Outcome, places: [u16; 4]) -> Line
     ensures { Prints (line_by outcome places) result.bytes result.len }
 {
     match outcome {
-        Outcome::Breach(n) => breach_line(usize_of_u8(n), places),
+        Outcome::Breach(n) => breach_line(usize::from(n), places),
         Outcome::Clear => none_line(),
         Outcome::Refused(x) => refusal_line(x),
     }

@@ -11,11 +11,9 @@ use Rattle.meaning.specs.Rules.{Clause}
 use Rattle.meaning.specs.Text as M
 use Rattle.meaning.specs.Replies.{Judged, empty, refused, refusal}
 use Rattle.meaning.proofs.Answered.{judged-one}
-use Rattle.text_runs.specs.declared.Answer.TheVariants as R
-use Rattle.classes.specs.declared.Contradiction.TheVariants.{First}
+use Rattle.std.specs.Prelude.{Result, Ok, Err, Some}
+use Rattle.replies.specs.declared.Refusal.{Refusal}
 use Rattle.ruling.specs.Order.{ruled_by}
-use Rattle.ruling.specs.declared.Answer.{Answer}
-use Rattle.ruling.specs.declared.Answer.TheVariants as A
 use Rattle.ruling.proofs.Ruling.{refused-one}
 
 pub some-eight : (c : Context) (k : Clause) → k.literals ≡ [] → Judged c k (refused (refusal 8 0))
@@ -26,12 +24,12 @@ no_nine c k n e j =
     let z : ◌≡◌ {A = ℕ} 8 9 = ap (λ (f : M.Refusal). f.number) (refused-one (refusal 8 0) (refusal 9 n) (judged-one c k (refused (refusal 8 0)) (refused (refusal 9 n)) (some-eight c k e) j)) in
     omega arith
 
-pub some-eight-ruled : ruled_by R.Taken 0 (First 0) ≡ A.Refused (record { number = 8; line = 0; offset = 0 })
+pub some-eight-ruled : ruled_by (Ok tt) 0 (Some 0) ≡ Err (record { number = 8; line = 0; offset = 0 })
 some-eight-ruled = refl
 
-abbrev number_of : Answer → ℕ
-number_of A.Ready = 0
-number_of (A.Refused x) = x.number
+abbrev number_of : Result (Unit {0}) Refusal → ℕ
+number_of (Ok u) = 0
+number_of (Err x) = x.number
 
-pub no-nine-ruled : ruled_by R.Taken 0 (First 0) ≡ A.Refused (record { number = 9; line = 1; offset = 0 }) → ⊥
+pub no-nine-ruled : ruled_by (Ok tt) 0 (Some 0) ≡ Err (record { number = 9; line = 1; offset = 0 }) → ⊥
 no-nine-ruled e = let z : ◌≡◌ {A = ℕ} 8 9 = ap number_of e in omega arith

@@ -1,5 +1,4 @@
 -- A text that is read, closed and ruled on: the order of the refusals, and what a rule that is ready stands for.
---     unless-eight .. answer-taken     what the parts answer
 --     close-done, rule-done            what `close` and `rule` promise
 --     Stands, ready-stands             where a rule is ready, the runs say what was read, which is well-formed and does not contradict itself
 --     refused-answers                  where it is refused, so does the finder
@@ -7,7 +6,7 @@
 -- Assumes nothing.
 use mathlib.Core.List.{List, [], ◌∷◌}
 use mathlib.Core.Path.{◌≡◌, refl, sym, ap, subst, subst₂, ◌∙◌}
-use Prim.Native.Nat.{ℕ, zero, suc, ◌+◌, ◌/◌, ◌<◌}
+use Prim.Native.Nat.{ℕ, zero, suc, ◌+◌, ◌/◌}
 use native.Mathlib.Omega.{arith}
 use native.Mathlib.Numerals.{add-one}
 use borrow.Author.Rules.{rules}
@@ -29,60 +28,30 @@ use Rattle.runs.proofs.Saying.{length-literals}
 use Rattle.replies.specs.declared.Refusal.{Refusal}
 use Rattle.replies.specs.Told.{meant}
 use Rattle.text_runs.specs.Reads.{told_by, told_of, read_of, Reads}
-use Rattle.text_runs.specs.declared.Answer as T
-use Rattle.text_runs.specs.declared.Answer.TheVariants as R
+use Rattle.std.specs.Prelude.{Option, Some, None, Result, Ok, Err}
 use Rattle.text_runs.specs.declared.Told.{Told}
 use Rattle.text_runs.proofs.Answers.{reads-one}
 use Rattle.classes.specs.Claims as C
 use Rattle.classes.specs.Claims.{clashing}
 use Rattle.classes.specs.declared.Classes.{Classes}
-use Rattle.classes.specs.declared.Contradiction.{Contradiction}
-use Rattle.classes.specs.declared.Contradiction.TheVariants.{First, Clear}
 use Rattle.classes.proofs.Answers.{closes-fit, clash-one, clash-small}
 use Rattle.ruling.specs.Claims.{rows_in, said_in, literals_in, context_in, clause_in, Ruling, refuses, ready, ClosesText, Rules}
-use Rattle.ruling.specs.Order.{Low, unless_empty, judged_by, ruled_by}
-use Rattle.ruling.specs.declared.Answer.{Answer}
-use Rattle.ruling.specs.declared.Answer.TheVariants as A
+use Rattle.ruling.specs.Order.{Low, judged_by, ruled_by}
 use Rattle.ruling.specs.declared.Closed.{Closed}
 use Rattle.ruling.specs.declared.Ruled.{Ruled}
 use Rattle.ruling.proofs.Saying.{part-long, rows_inside, said-inside, literals-counted, told-context, told-clause, told-formed, told_fit}
 
--- ---- the parts
-
-pub unless-eight : (literals : ℕ) (other : Answer) → literals ≡ 0 → A.Refused (record { number = 8; line = 0; offset = 0 }) ≡ unless_empty literals other
-unless-eight literals other e = rw e
-
-pub unless-other : (literals : ℕ) (other : Answer) → (literals ≡ 0 → ⊥) → other ≡ unless_empty literals other
-unless-other zero other n = absurd (n refl)
-unless-other (suc m) other n = refl
-
-pub judge-low : (r : Contradiction) (n : ℕ) → Low r → r ≡ First n → n < most_statements
-judge-low r n h e = h.low n e
-
-pub judge-first : (literals n l : ℕ) (r : Contradiction) → r ≡ First n → l ≡ n + 1
-    → (y : Answer) → y ≡ unless_empty literals (A.Refused (record { number = 9; line = l; offset = 0 })) → y ≡ judged_by literals r
-judge-first literals n l r e i y q = q ∙ rw (i, e)
-
-pub judge-clear : (literals : ℕ) (r : Contradiction) → r ≡ Clear → (y : Answer) → y ≡ unless_empty literals A.Ready → y ≡ judged_by literals r
-judge-clear literals r e y q = q ∙ sym (ap (judged_by literals) e)
-
-pub answer-refused : (first : T.Answer) (x : Refusal) (literals : ℕ) (r : Contradiction) → first ≡ R.Refused x → A.Refused x ≡ ruled_by first literals r
-answer-refused first x literals r e = sym (ap (λ (z : T.Answer). ruled_by z literals r) e)
-
-pub answer-taken : (first : T.Answer) (literals : ℕ) (r : Contradiction) → first ≡ R.Taken → (y : Answer) → y ≡ judged_by literals r → y ≡ ruled_by first literals r
-answer-taken first literals r e y q = q ∙ sym (ap (λ (z : T.Answer). ruled_by z literals r) e)
-
 -- ---- closed
 
-pub close-done : (text : List ℕ) (t : Told) → Reads text t → (z : Classes)
-    → C.Closes most_rows most_statements (rows_in t) (said_in t) z.answer z.table
-    → (x : Contradiction) → clashing x ≡ clash_of (rep_at z.table) (differences_of (statements_of (said_in t)))
+pub close-done : (text : List ℕ) (t : Told) → Reads text t → (rs ss us : List ℕ) → rs ≡ rows_in t → ss ≡ said_in t → us ≡ said_in t → (z : Classes)
+    → C.Closes most_rows most_statements rs ss z.answer z.table → (x : Option ℕ) → clashing x ≡ clash_of (rep_at z.table) (differences_of (statements_of us))
     → ClosesText text (record { told = t; table = z.table; clash = x })
-close-done text t h z w x e =
+close-done text t h rs ss us er es eu z w x e =
+    let v = subst₂ (λ (a b : List ℕ). C.Closes most_rows most_statements a b z.answer z.table) er es w in
     record {
       told = h;
-      closed = (closes-fit most_rows most_statements (rows_in t) (said_in t) z.answer z.table (told_fit text t h) w).1;
-      clashes = e;
+      closed = (closes-fit most_rows most_statements (rows_in t) (said_in t) z.answer z.table (told_fit text t h) v).1;
+      clashes = e ∙ ap (λ (a : List ℕ). clash_of (rep_at z.table) (differences_of (statements_of a))) eu;
     }
 
 -- ---- ruled on
@@ -100,7 +69,7 @@ module _ (text : List ℕ) (r : Closed) (h : ClosesText text r) where
         low = λ m e. omega (arith, clash-small (rep_at r.table) (said_in t) m (sym h.clashes ∙ ap clashing e), (told_fit text t h.told).said-few);
       }
 
-  refused-replies : (x : Refusal) → t.answer ≡ R.Refused x → Replies narrow text (refused (meant x))
+  refused-replies : (x : Refusal) → t.answer ≡ Err x → Replies narrow text (refused (meant x))
   refused-replies x e = go (read narrow text) refl
     where
       same : (y : M.Reading) → read narrow text ≡ y → x.number ∷ x.line ∷ x.offset ∷ [] ≡ told_of y
@@ -136,22 +105,22 @@ module _ (text : List ℕ) (r : Closed) (h : ClosesText text r) where
     judged-replies : (y : Reply) → Judged (context_in t) (clause_in t) y → Replies narrow text y
     judged-replies y j = subst (λ (z : M.Reading). RepliesTo z y) (sym e) (subst₂ (λ (c : Context) (k : Clause). Judged c k y) context-is clause-is j)
 
-    eight : n ≡ 0 → Ruling text (A.Refused (record { number = 8; line = 0; offset = 0 }))
+    eight : n ≡ 0 → Ruling text (Err (record { number = 8; line = 0; offset = 0 }))
     eight z = refuses (record { number = 8; line = 0; offset = 0 }) (judged-replies (refused (refusal 8 0)) (empty (no-literal z)))
 
     judged-ruled : Ruling text (judged_by n r.clash)
     judged-ruled = go n refl r.clash refl
       where
-        go : (m : ℕ) → n ≡ m → (w : Contradiction) → r.clash ≡ w → Ruling text (judged_by m w)
-        go zero l (First i) q = eight l
-        go zero l Clear q = eight l
-        go (suc m) l (First i) q =
+        go : (m : ℕ) → n ≡ m → (w : Option ℕ) → r.clash ≡ w → Ruling text (judged_by m w)
+        go zero l (Some i) q = eight l
+        go zero l None q = eight l
+        go (suc m) l (Some i) q =
             refuses (record { number = 9; line = i + 1; offset = 0 })
             (judged-replies (refused (refusal 9 (i + 1)))
             (rw (add-one i)
             (clashes (some-literal (λ z. omega arith)) i
             (clash-first (context_in t) (told_fit text t h.told).fit (rep_at r.table) h.closed.rows i (sym h.clashes ∙ ap clashing q)))))
-        go (suc m) l Clear q =
+        go (suc m) l None q =
             ready s e
             (subst (λ (k : Clause). k.literals ≡ [] → ⊥) clause-is (some-literal (λ z. omega arith)))
             (subst Consistent context-is
@@ -160,16 +129,16 @@ module _ (text : List ℕ) (r : Closed) (h : ClosesText text r) where
   ruled : Ruling text (ruled_by t.answer n r.clash)
   ruled = go t.answer refl
     where
-      taken-read : t.answer ≡ R.Taken → (y : M.Reading) → read narrow text ≡ y → Ruling text (judged_by n r.clash)
+      taken-read : t.answer ≡ Ok tt → (y : M.Reading) → read narrow text ≡ y → Ruling text (judged_by n r.clash)
       taken-read a (taken s) q = judged-ruled s q
       taken-read a (faulty f) q =
           absurd (let v : [] ≡ f.number ∷ f.place ∷ f.offset ∷ [] = sym (ap told_by a) ∙ h.told.told ∙ ap told_of q in let z : ◌≡◌ {A = ℕ} 0 1 = cc in omega arith)
 
-      go : (a : T.Answer) → t.answer ≡ a → Ruling text (ruled_by a n r.clash)
-      go (R.Refused y) a = refuses y (refused-replies y a)
-      go R.Taken a = taken-read a (read narrow text) refl
+      go : (a : Result (Unit {0}) Refusal) → t.answer ≡ a → Ruling text (ruled_by a n r.clash)
+      go (Err y) a = refuses y (refused-replies y a)
+      go (Ok u) a = taken-read a (read narrow text) refl
 
-  pub rule-done : (a : Answer) → a ≡ ruled_by r.told.answer (r.told.filled.literals / 3) r.clash
+  pub rule-done : (a : Result (Unit {0}) Refusal) → a ≡ ruled_by r.told.answer (r.told.filled.literals / 3) r.clash
       → Rules text (record { answer = a; told = r.told; table = r.table })
   rule-done a e = record { ruled = subst (Ruling text) (sym e) ruled; told = h.told; closed = h.closed }
 
@@ -185,10 +154,10 @@ pub record Stands (text : List ℕ) (t : Told) : Type 0 where
   pub consistent : Consistent what.ledger.context
 
 module _ (text : List ℕ) (p : Ruled) (rules : Rules text p) where
-  pub ready-stands : p.answer ≡ A.Ready → Stands text p.told
+  pub ready-stands : p.answer ≡ Ok tt → Stands text p.told
   ready-stands e = go p.answer e rules.ruled
     where
-      go : (a : Answer) → a ≡ A.Ready → Ruling text a → Stands text p.told
+      go : (a : Result (Unit {0}) Refusal) → a ≡ Ok tt → Ruling text a → Stands text p.told
       go a q (refuses x w) = absurd (let z : ◌≡◌ {A = ℕ} 0 1 = cc in omega arith)
       go a q (ready s f n w) =
           record {
@@ -201,13 +170,13 @@ module _ (text : List ℕ) (p : Ruled) (rules : Rules text p) where
             consistent = w;
           }
 
-  pub ready-consistent : p.answer ≡ A.Ready → Consistent (context_in p.told)
+  pub ready-consistent : p.answer ≡ Ok tt → Consistent (context_in p.told)
   ready-consistent e = subst Consistent (sym (ready-stands e).context) (ready-stands e).consistent
 
-  pub refused-answers : (x : Refusal) → p.answer ≡ A.Refused x → Replies narrow text (refused (meant x))
+  pub refused-answers : (x : Refusal) → p.answer ≡ Err x → Replies narrow text (refused (meant x))
   refused-answers x e = go p.answer e rules.ruled
     where
-      go : (a : Answer) → a ≡ A.Refused x → Ruling text a → Replies narrow text (refused (meant x))
+      go : (a : Result (Unit {0}) Refusal) → a ≡ Err x → Ruling text a → Replies narrow text (refused (meant x))
       go a q (refuses y w) = let v : y ≡ x = cc in subst (λ (y : Refusal). Replies narrow text (refused (meant y))) v w
       go a q (ready s f n w) = absurd (let z : ◌≡◌ {A = ℕ} 0 1 = cc in omega arith)
 
@@ -230,7 +199,7 @@ never-ready text s e n w f p =
 pub refused-one : (f g : M.Refusal) → refused f ≡ refused g → f ≡ g
 refused-one f g e = cc
 
-pub ruled-one : (text : List ℕ) (a b : Answer) → Ruling text a → Ruling text b → a ≡ b
+pub ruled-one : (text : List ℕ) (a b : Result (Unit {0}) Refusal) → Ruling text a → Ruling text b → a ≡ b
 ruled-one text a b (refuses x p) (refuses y q) =
     let f : M.Refusal = meant x in
     let g : M.Refusal = meant y in
@@ -238,7 +207,7 @@ ruled-one text a b (refuses x p) (refuses y q) =
     let n : x.number ≡ y.number = ap (λ (h : M.Refusal). h.number) e in
     let l : x.line ≡ y.line = ap (λ (h : M.Refusal). h.place) e in
     let o : x.offset ≡ y.offset = ap (λ (h : M.Refusal). h.offset) e in
-    ap A.Refused (rw (n, l, o))
+    ap Err (rw (n, l, o))
 ruled-one text a b (refuses x p) (ready s e n c) = absurd (never-ready text s e n c (meant x) p)
 ruled-one text a b (ready s e n c) (refuses x p) = absurd (never-ready text s e n c (meant x) p)
 ruled-one text a b (ready s e n c) (ready t f m d) = refl
@@ -247,7 +216,7 @@ table-one : (text : List ℕ) (s t : Told) (u v : List ℕ) → s ≡ t → Prom
 table-one text s t u v e p q =
     promise-one (context_in s) most_rows u v p (subst (λ (d : Told). Promise (context_in d) most_rows v) (sym e) q)
 
-same-closed : {t s : Told} {u v : List ℕ} {x y : Contradiction} → t ≡ s → u ≡ v → x ≡ y
+same-closed : {t s : Told} {u v : List ℕ} {x y : Option ℕ} → t ≡ s → u ≡ v → x ≡ y
     → ◌≡◌ {A = Closed} (record { told = t; table = u; clash = x }) (record { told = s; table = v; clash = y })
 same-closed e f g = rw (e, f, g)
 
@@ -258,7 +227,7 @@ closes-one text p q v w =
     let i : clash_of (rep_at q.table) (differences (context_in q.told)) ≡ clash_of (rep_at p.table) (differences (context_in p.told)) = rw (e, t) in
     same-closed e t (clash-one p.clash q.clash (clash_of (rep_at p.table) (differences (context_in p.told))) v.clashes (w.clashes ∙ i))
 
-same-ruled : {a b : Answer} {t s : Told} {u v : List ℕ} → a ≡ b → t ≡ s → u ≡ v
+same-ruled : {a b : Result (Unit {0}) Refusal} {t s : Told} {u v : List ℕ} → a ≡ b → t ≡ s → u ≡ v
     → ◌≡◌ {A = Ruled} (record { answer = a; told = t; table = u }) (record { answer = b; told = s; table = v })
 same-ruled e f g = rw (e, f, g)
 
@@ -269,4 +238,4 @@ rules-one text p q v w =
     let t : p.table ≡ q.table = table-one text p.told q.told p.table q.table e v.closed w.closed in
     same-ruled a e t
 
-pub ruleset mine = (rules, part-long, rows_inside, said-inside, unless-eight, unless-other, judge-low, judge-first, judge-clear, answer-refused, answer-taken, close-done, closed-low, rule-done)
+pub ruleset mine = (rules, rows_inside, said-inside, close-done, closed-low, rule-done)

@@ -5,7 +5,7 @@
 --     ClosesText               what was read, the representatives of its rows, and the first contradiction
 --     Rules                    what is answered, what was read, and the representatives
 -- Assumes nothing.
-use Rattle.std.specs.Prelude.{List, [], ◌≡◌, ℕ, take}
+use Rattle.std.specs.Prelude.{List, [], ◌≡◌, ℕ, take, Result, Ok, Err}
 use Rattle.meaning.specs.Context.{Context, differences}
 use Rattle.meaning.specs.Rules.{Clause}
 use Rattle.meaning.specs.ByTable.{clash_of}
@@ -19,8 +19,6 @@ use Rattle.replies.specs.declared.Refusal.{Refusal}
 use Rattle.text_runs.specs.Reads.{Reads}
 use Rattle.text_runs.specs.declared.Told.{Told}
 use Rattle.classes.specs.Claims.{clashing}
-use Rattle.ruling.specs.declared.Answer.{Answer}
-use Rattle.ruling.specs.declared.Answer.TheVariants as A
 use Rattle.ruling.specs.declared.Closed.{Closed}
 use Rattle.ruling.specs.declared.Ruled.{Ruled}
 
@@ -43,9 +41,9 @@ abbrev pub clause_in : Told → Clause
 clause_in t = clause_of (patterns_in t) (literals_in t)
 
 -- as the finder replies to it; where it is ready, the finder's reply is a breach or none
-pub data Ruling (text : List ℕ) : Answer → Type 0 where
-  refuses : (x : Refusal) → Replies narrow text (refused (meant x)) → Ruling text (A.Refused x)
-  ready : (s : Read) → read narrow text ≡ taken s → (s.clause.literals ≡ [] → ⊥) → Consistent s.ledger.context → Ruling text A.Ready
+pub data Ruling (text : List ℕ) : Result (Unit {0}) Refusal → Type 0 where
+  refuses : (x : Refusal) → Replies narrow text (refused (meant x)) → Ruling text (Err x)
+  ready : (s : Read) → read narrow text ≡ taken s → (s.clause.literals ≡ [] → ⊥) → Consistent s.ledger.context → Ruling text (Ok tt)
 
 -- where the reader refuses, the runs are those of the empty text, and the table holds each place's own number
 pub record ClosesText (text : List ℕ) (r : Closed) : Type 0 where

@@ -6,10 +6,9 @@ ghost use Rattle.runs.specs.Fit.{Decides, Every, PlacedAt, RowAt, NamedAt, Patte
 
 use super::limits::{LITERALS, PATTERN, PATTERNS, PLACES, ROW, VARIABLES};
 use super::{
-    count_in, head_in, left_in, literal_count, pattern_count, pattern_count_in, pattern_kind_in,
+    count_in, head_in, is_variable, left_in, literal_count, pattern_count, pattern_count_in,
     right_in, row_count, said_count,
 };
-use casts::usize_of_u16;
 
 // Whether the arguments from a place on are at most four, each earlier than i.
 fn placed(run: &[u16], at: usize, count: usize, i: usize) -> bool
@@ -19,12 +18,10 @@ fn placed(run: &[u16], at: usize, count: usize, i: usize) -> bool
     if PLACES < count {
         return false;
     }
-    let mut k = 0;
-    while k < count {
-        if i <= usize_of_u16(run[at + k]) {
+    for k in 0..count {
+        if i <= usize::from(run[at + k]) {
             return false;
         }
-        k += 1;
     }
     true
 }
@@ -36,16 +33,15 @@ fn row_placed(rows: &[u16], i: usize) -> bool
     placed(rows, i * ROW + 2, count_in(rows, i), i)
 }
 
+// Beside patterns_placed: a closure for the test would be longer than the loop.
 fn rows_placed(rows: &[u16]) -> bool
     ensures { Decides result (Every (row_count rows.now) (RowAt rows.now)) }
 {
     let n = row_count(rows);
-    let mut i = 0;
-    while i < n {
+    for i in 0..n {
         if !row_placed(rows, i) {
             return false;
         }
-        i += 1;
     }
     true
 }
@@ -55,13 +51,7 @@ fn pair_named(said: &[u16], limit: usize, k: usize) -> bool
     requires { k < said_count said.now }
     ensures { Decides result (NamedAt said.now limit k) }
 {
-    if limit <= left_in(said, k) {
-        return false;
-    }
-    if limit <= right_in(said, k) {
-        return false;
-    }
-    true
+    left_in(said, k) < limit && right_in(said, k) < limit
 }
 
 // Whether each of them does.
@@ -69,12 +59,10 @@ fn named(said: &[u16], limit: usize) -> bool
     ensures { Decides result (Every (said_count said.now) (NamedAt said.now limit)) }
 {
     let n = said_count(said);
-    let mut k = 0;
-    while k < n {
+    for k in 0..n {
         if !pair_named(said, limit, k) {
             return false;
         }
-        k += 1;
     }
     true
 }
@@ -83,10 +71,7 @@ fn variable_fits(patterns: &[u16], i: usize) -> bool
     requires { i < pattern_count patterns.now }
     ensures { Decides result (head_in patterns.now i < most_variables) }
 {
-    if usize_of_u16(head_in(patterns, i)) < VARIABLES {
-        return true;
-    }
-    false
+    usize::from(head_in(patterns, i)) < VARIABLES
 }
 
 // Whether pattern row i is a variable, 0 to 3, or a symbol with at most four arguments, each an earlier pattern row.
@@ -94,7 +79,7 @@ fn pattern_placed(patterns: &[u16], i: usize) -> bool
     requires { i < pattern_count patterns.now }
     ensures { Decides result (PatternAt patterns.now i) }
 {
-    if pattern_kind_in(patterns, i) == 4 {
+    if is_variable(patterns, i) {
         return variable_fits(patterns, i);
     }
     placed(patterns, i * PATTERN + 3, pattern_count_in(patterns, i), i)
@@ -104,12 +89,10 @@ fn patterns_placed(patterns: &[u16]) -> bool
     ensures { Decides result (Every (pattern_count patterns.now) (PatternAt patterns.now)) }
 {
     let n = pattern_count(patterns);
-    let mut i = 0;
-    while i < n {
+    for i in 0..n {
         if !pattern_placed(patterns, i) {
             return false;
         }
-        i += 1;
     }
     true
 }

@@ -2,17 +2,17 @@
 // count, so one function serves runs of every length.
 #![tactic(auto)]
 
-ghost use Rattle.std.specs.Prelude.{◌≡◌, ◌<◌};
+ghost use Rattle.std.specs.Prelude.{◌≡◌, ◌<◌, eqb};
 ghost use Rattle.runs.specs.Limits.{arg_places};
 ghost use Rattle.runs.specs.Runs.{row_count, symbol_in, count_in, arg_in, said_count, kind_in, left_in, right_in, pattern_count, pattern_kind_in, head_in, pattern_count_in, pattern_arg_in, literal_count, sign_in};
 
-use casts::usize_of_u16;
-use limits::{LITERAL, PATTERN, ROW, SAID};
+use limits::{EQUAL, EQUATION, LITERAL, PATTERN, ROW, SAID, VARIABLE};
 
 pub mod fit;
 pub mod limits;
 pub mod writing;
 
+// A count for each kind of run, since the name says what it holds.
 pub fn row_count(rows: &[u16]) -> usize
     ensures { result ≡ row_count rows.now }
 {
@@ -38,6 +38,7 @@ pub fn literal_count(literals: &[u16]) -> usize
 }
 
 // The numbers of row i.
+// A reader for each number, since the name says which it is; those of a statement serve literals too.
 pub fn symbol_in(rows: &[u16], i: usize) -> u16
     requires { i < row_count rows.now }
     ensures { result ≡ symbol_in rows.now i }
@@ -49,7 +50,7 @@ pub fn count_in(rows: &[u16], i: usize) -> usize
     requires { i < row_count rows.now }
     ensures { result ≡ count_in rows.now i }
 {
-    usize_of_u16(rows[i * ROW + 1])
+    usize::from(rows[i * ROW + 1])
 }
 
 pub fn arg_in(rows: &[u16], i: usize, k: usize) -> usize
@@ -57,7 +58,7 @@ pub fn arg_in(rows: &[u16], i: usize, k: usize) -> usize
     requires k_lt_arg_places { k < arg_places }
     ensures { result ≡ arg_in rows.now i k }
 {
-    usize_of_u16(rows[i * ROW + 2 + k])
+    usize::from(rows[i * ROW + 2 + k])
 }
 
 // The kind of statement k.
@@ -68,19 +69,27 @@ pub fn kind_in(said: &[u16], k: usize) -> u16
     said[k * SAID]
 }
 
+// Whether statement k is an equation; any other is a difference.
+pub fn is_equation(said: &[u16], k: usize) -> bool
+    requires { k < said_count said.now }
+    ensures { result ≡ eqb (kind_in said.now k) 2 }
+{
+    kind_in(said, k) == EQUATION
+}
+
 // The sides of statement k, or of literal k.
 pub fn left_in(said: &[u16], k: usize) -> usize
     requires { k < said_count said.now }
     ensures { result ≡ left_in said.now k }
 {
-    usize_of_u16(said[k * SAID + 1])
+    usize::from(said[k * SAID + 1])
 }
 
 pub fn right_in(said: &[u16], k: usize) -> usize
     requires { k < said_count said.now }
     ensures { result ≡ right_in said.now k }
 {
-    usize_of_u16(said[k * SAID + 2])
+    usize::from(said[k * SAID + 2])
 }
 
 // The numbers of pattern row i.
@@ -89,6 +98,14 @@ pub fn pattern_kind_in(patterns: &[u16], i: usize) -> u16
     ensures { result ≡ pattern_kind_in patterns.now i }
 {
     patterns[i * PATTERN]
+}
+
+// Whether pattern row i is a variable; any other is a symbol.
+pub fn is_variable(patterns: &[u16], i: usize) -> bool
+    requires { i < pattern_count patterns.now }
+    ensures { result ≡ eqb (pattern_kind_in patterns.now i) 4 }
+{
+    pattern_kind_in(patterns, i) == VARIABLE
 }
 
 pub fn head_in(patterns: &[u16], i: usize) -> u16
@@ -102,7 +119,7 @@ pub fn pattern_count_in(patterns: &[u16], i: usize) -> usize
     requires { i < pattern_count patterns.now }
     ensures { result ≡ pattern_count_in patterns.now i }
 {
-    usize_of_u16(patterns[i * PATTERN + 2])
+    usize::from(patterns[i * PATTERN + 2])
 }
 
 pub fn pattern_arg_in(patterns: &[u16], i: usize, k: usize) -> usize
@@ -110,7 +127,7 @@ pub fn pattern_arg_in(patterns: &[u16], i: usize, k: usize) -> usize
     requires k_lt_arg_places { k < arg_places }
     ensures { result ≡ pattern_arg_in patterns.now i k }
 {
-    usize_of_u16(patterns[i * PATTERN + 3 + k])
+    usize::from(patterns[i * PATTERN + 3 + k])
 }
 
 // The sign of literal k.
@@ -119,4 +136,12 @@ pub fn sign_in(literals: &[u16], k: usize) -> u16
     ensures { result ≡ sign_in literals.now k }
 {
     literals[k * LITERAL]
+}
+
+// Whether literal k says that its sides are equal; any other says that they differ.
+pub fn is_equal(literals: &[u16], k: usize) -> bool
+    requires { k < literal_count literals.now }
+    ensures { result ≡ eqb (sign_in literals.now k) 6 }
+{
+    sign_in(literals, k) == EQUAL
 }

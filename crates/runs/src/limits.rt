@@ -25,6 +25,14 @@ pub const LITERAL: usize = 3;
 
 pub const PLACES: usize = 4;
 
+// The kinds as the runs hold them: of a statement, an equation and any other number a difference; of a pattern row, a variable and any other a
+// symbol; of a literal, equal and any other unequal.
+pub const EQUATION: u16 = 2;
+
+pub const VARIABLE: u16 = 4;
+
+pub const EQUAL: u16 = 6;
+
 // The numbers of the longest runs.
 pub const ROW_RUN: usize = ROWS * ROW;
 

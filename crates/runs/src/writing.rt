@@ -10,12 +10,8 @@ fn copy(run: &mut [u16], at: usize, piece: &[u16])
     requires { at + length piece.now ≤ length run.old }
     ensures { run.new ≡ take at run.old ++ piece.now ++ drop (at + length piece.now) run.old }
 {
-    let n = piece.len();
-    let mut k = 0;
-    while k < n {
-        run[at + k] = piece[k];
-        k += 1;
-    }
+    let end = at + piece.len();
+    run[at..end].copy_from_slice(piece);
 }
 
 // Row n.
@@ -28,6 +24,7 @@ pub fn put_row(rows: &mut [u16], n: usize, symbol: u16, count: u16, places: [u16
 }
 
 // Statement n.
+// Beside put_literal: the name says which run it is, and the call is the same.
 pub fn put_said(said: &mut [u16], n: usize, kind: u16, left: u16, right: u16)
     requires { n * said_size + said_size ≤ length said.old }
     ensures { said.new ≡ put said_size said.old n (kind ∷ left ∷ right ∷ []) }

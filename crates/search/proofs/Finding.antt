@@ -6,7 +6,7 @@
 --     closes-lent                     the closing and the marks that are lent
 --     finds-one, nexts-one            two answers that meet the contract are equal
 -- Assumes nothing.
-use mathlib.Core.Bool.{Bool, true, false}
+use mathlib.Core.Bool.{Bool, true, false, not}
 use mathlib.Core.List.{List, [], ◌∷◌}
 use mathlib.Core.Path.{◌≡◌, refl, sym, ap, ap₂, ◌∙◌, subst}
 use Prim.Native.Nat.{ℕ, zero, suc, ◌+◌, ◌≤◌, ◌<◌}
@@ -31,8 +31,8 @@ use Rattle.columns.proofs.Flat.{fit-literals}
 use Rattle.closing.specs.Claims.{Closes, clashing}
 use Rattle.closing.specs.declared.Answer.{Answer}
 use Rattle.closing.specs.declared.Answer.TheVariants.{Closed, Unfit}
-use Rattle.closing.specs.declared.Contradiction.{Contradiction}
-use Rattle.closing.specs.declared.Contradiction.TheVariants as C
+use Rattle.std.specs.Prelude.{Option, Some, None}
+use Rattle.std.specs.Option.{is_some}
 use Rattle.plan.specs.declared.Plan.{Plan}
 use Rattle.plan.specs.Planning.{up_to, Arranged}
 use Rattle.plan.specs.Reach.{free_by, never}
@@ -48,7 +48,7 @@ use Rattle.differing.proofs.Knowing.{rows_are, unlike}
 use Rattle.search.specs.declared.Reply.{Reply}
 use Rattle.values.specs.Reading.{Listed}
 use Rattle.search.specs.Hunting.{stage_of, dead_of, enter_from, rows_of, answer_of, Planned, Ready}
-use Rattle.search.specs.Finding.{found_by, later_by, next_of, is_clear, Futile, unfit_reply, FindsIn, fits, unfits, NextIn, next_fits, next-unfits}
+use Rattle.search.specs.Finding.{found_by, later_by, next_of, Futile, unfit_reply, FindsIn, fits, unfits, NextIn, next_fits, next-unfits}
 use Rattle.search.proofs.Bridge.{order-front, hunt-free}
 use Rattle.search.proofs.Next.{next-none, next-long, next-bump}
 use Rattle.search.proofs.Onward.{hunt-next}
@@ -95,15 +95,16 @@ planned ls order ends patterns h few a = record { listed = list; rises = rise }
 
 -- ---- the plan
 
-plans-fit : {shapes heads arities subs : List ℕ} {patterns : ℕ} {signs firsts seconds : List ℕ} {literals : ℕ} {r : Plan}
-    → Plans shapes heads arities subs patterns signs firsts seconds literals r → r.fit ≡ true
+plans-fit : {shapes heads arities subs : List ℕ} {patterns : ℕ} {signs firsts seconds : List ℕ} {literals : ℕ} {o : Option Plan} {r : Plan}
+    → Plans shapes heads arities subs patterns signs firsts seconds literals o → o ≡ Some r
     → FitClause shapes heads arities subs patterns signs firsts seconds literals × Plan-of shapes heads arities subs patterns signs firsts seconds literals r
-plans-fit (P.fits g p) e = (g, p)
-plans-fit (P.unfits n) e = false-true e refl
+plans-fit {shapes} {heads} {arities} {subs} {patterns} {signs} {firsts} {seconds} {literals} {o} {r} (P.fits {r = s} g p) e =
+    let q : s ≡ r = cc in (g, subst (Plan-of shapes heads arities subs patterns signs firsts seconds literals) q p)
+plans-fit (P.unfits n) e = absurd (cc)
 
-pub plans-unfit : {shapes heads arities subs : List ℕ} {patterns : ℕ} {signs firsts seconds : List ℕ} {literals : ℕ} {r : Plan}
-    → Plans shapes heads arities subs patterns signs firsts seconds literals r → r.fit ≡ false → FitClause shapes heads arities subs patterns signs firsts seconds literals → ⊥
-plans-unfit (P.fits g p) e f = false-true p.fit e
+pub plans-unfit : {shapes heads arities subs : List ℕ} {patterns : ℕ} {signs firsts seconds : List ℕ} {literals : ℕ} {o : Option Plan}
+    → Plans shapes heads arities subs patterns signs firsts seconds literals o → o ≡ None → FitClause shapes heads arities subs patterns signs firsts seconds literals → ⊥
+plans-unfit (P.fits g p) e f = cc
 plans-unfit (P.unfits n) e f = n f
 
 mark-read : (b : Bool) → eqb (mark_of b) 1 ≡ b
@@ -114,9 +115,9 @@ mark-read false = refl
 -- ---- all together
 
 module _ {symbols counts args : List ℕ} {rows : ℕ} {kinds lefts rights : List ℕ} {statements : ℕ} {shapes heads arities subs : List ℕ} {patterns : ℕ}
-    {signs firsts seconds : List ℕ} {literals : ℕ} {plan : Plan}
+    {signs firsts seconds : List ℕ} {literals : ℕ} {answer : Option Plan} {plan : Plan}
     (f : FitContext symbols counts args rows kinds lefts rights statements) (laid : Laid counts args rows)
-    (plans : Plans shapes heads arities subs patterns signs firsts seconds literals plan) (fit : plan.fit ≡ true) where
+    (plans : Plans shapes heads arities subs patterns signs firsts seconds literals answer) (fit : answer ≡ Some plan) where
   abbrev ps : List Pattern
   ps = patterns_from shapes heads arities subs patterns
 
@@ -214,17 +215,21 @@ module _ {symbols counts args : List ℕ} {rows : ℕ} {kinds lefts rights : Lis
         subst (Nexts after)
         (sym (q ∙ ap answer_of (ap₂ (hunt_by (λ m. rows_of (rep_at table) m (replicate 4 0) from)) (sym rows-of) p.counted) ∙ ap answer_of e)) (next_fits f g)
 
+not-true : (b : Bool) → true ≡ not b → b ≡ false
+not-true true q = q
+not-true false q = refl
+
 module _ (table : List ℕ) (low : (i : ℕ) → Fits w16 (get_or table i 0)) where
   table-low : (i : ℕ) → rep_at table i < 65536
   table-low i = omega (arith, (low i).fits)
 
-  pub futile-not : (never : Bool) (own : ℕ → ℕ) (ds : List (ℕ × ℕ)) → Futile never (rep_at table) own ds false
-  futile-not never own ds = record { low = table-low; none = λ q. false-true q refl }
+  pub futile-not : (never : Bool) (own : ℕ → ℕ) (ds : List (ℕ × ℕ)) → never ≡ false → Futile never (rep_at table) own ds never
+  futile-not never own ds h = record { low = table-low; none = λ q. false-true q h }
 
-  pub futile-by : (never : Bool) (own : ℕ → ℕ) (ds : List (ℕ × ℕ)) (c : Contradiction) (b : Bool) → never ≡ true → clashing c ≡ clash_of own ds → b ≡ is_clear c
+  pub futile-by : (never : Bool) (own : ℕ → ℕ) (ds : List (ℕ × ℕ)) (c : Option ℕ) (b : Bool) → never ≡ true → clashing c ≡ clash_of own ds → is_some c ≡ not b
       → Futile never (rep_at table) own ds b
-  futile-by never own ds (C.First n) b t e q = record { low = table-low; none = λ w. false-true w q }
-  futile-by never own ds C.Clear b t e q = record { low = table-low; none = λ w. (t, sym e) }
+  futile-by never own ds (Some n) b t e q = record { low = table-low; none = λ w. false-true w (not-true b q) }
+  futile-by never own ds None b t e q = record { low = table-low; none = λ w. (t, sym e) }
 
 -- the closing and the marks that are answered
 pub closes-lent : {symbols counts args : List ℕ} {rows : ℕ} {kinds lefts rights : List ℕ} {statements : ℕ} (a : Answer) {table busy : List ℕ}

@@ -1,8 +1,7 @@
 -- The search as the code goes: one level read and tried, one row of a variable tried, and the rows of a variable in turn.
 --     breach-answer                                    answers
---     own-start, own-next, own-found, own-none         the next row that is its own representative
 --     begins-start, -next, -other, -done               the row that a variable begins with
---     Trying, trying_start, -found, -next, -done       the rows of a variable
+--     Trying, trying_start, -other, -found, -next, -done       the rows of a variable
 --     enter-dead, enter-live, planned-listed, -rises   one level
 --     chosen-start, chosen-next                        the choice so far
 --     hunt-leaf, ready-hunting, start-enter            the variables in order
@@ -30,7 +29,7 @@ use Rattle.search.specs.declared.Kind.TheVariants.{Breach}
 use Rattle.search.specs.declared.Reply.{Reply}
 use Rattle.values.specs.Chains.{Chained}
 use Rattle.values.specs.Reading.{Listed, read_of}
-use Rattle.search.specs.Hunting.{stage_of, dead_of, try_each, enter_of, attempt_of, hunt_of, enter_from, start_of, alone_of, rows_of, NextOwn, answer_of, is_breach, Planned, Ready, Hunting, Chosen}
+use Rattle.search.specs.Hunting.{stage_of, dead_of, try_each, enter_of, attempt_of, hunt_of, enter_from, start_of, alone_of, rows_of, answer_of, is_breach, Planned, Ready, Hunting, Chosen}
 
 pub breach-answer : (k : ℕ) (chosen : List ℕ) → k ≤ 4 → Chosen k chosen → ◌≡◌ {A = Reply} (record { kind = Breach k; places = chosen }) (answer_of (found (take k chosen)))
 unfolding answer_of
@@ -82,11 +81,6 @@ settled-left b x m e f = ap (◌|| m) (sym f ∙ e)
 
 -- ---- the rows that are their own representatives
 
--- no row from i up to j is its own representative
-pub record Passed (rep : ℕ → ℕ) (n i j : ℕ) : Type 0 where
-  pub rises : i ≤ j
-  pub same : lowest rep i (n - i) ≡ lowest rep j (n - j)
-
 module _ (rep : ℕ → ℕ) (n : ℕ) where
   lowest-own : (i : ℕ) → i < n → rep i ≡ i → lowest rep i (n - i) ≡ i ∷ lowest rep (i + 1) (n - (i + 1))
   unfolding lowest
@@ -95,18 +89,6 @@ module _ (rep : ℕ → ℕ) (n : ℕ) where
   lowest-other : (i : ℕ) → i < n → (rep i ≡ i → ⊥) → lowest rep i (n - i) ≡ lowest rep (i + 1) (n - (i + 1))
   unfolding lowest
   lowest-other i h q = let e : n - i ≡ suc (n - (i + 1)) = omega arith in rw (e, ne_eqb (rep i) i q, lowest, add-one i)
-
-  pub own-start : (i : ℕ) → Passed rep n i i
-  own-start i = record { rises = omega arith; same = refl }
-
-  pub own-found : (i j x : ℕ) → Passed rep n i j → x ≡ rep j → x ≡ j → NextOwn rep n i j
-  own-found i j x p e q = record { rises = p.rises; same = p.same; own = λ h. sym e ∙ q }
-
-  pub own-next : (i j x : ℕ) → Passed rep n i j → j < n → x ≡ rep j → (x ≡ j → ⊥) → Passed rep n i (j + 1)
-  own-next i j x p h e q = record { rises = omega (arith, p.rises); same = p.same ∙ lowest-other j h (λ w. q (e ∙ w)) }
-
-  pub own-none : (i j : ℕ) → Passed rep n i j → n ≤ j → NextOwn rep n i j
-  own-none i j p h = record { rises = p.rises; same = p.same; own = λ l. absurd (omega arith) }
 
 -- ---- the row that a variable begins with
 
@@ -201,23 +183,26 @@ chosen-next k x chosen h c =
 
 -- the rows of a variable from row i on are still to be tried
 pub record Trying (rep : ℕ → ℕ) (n : ℕ) (f : ℕ → Found) (mark : ℕ) (whole : Found) (i : ℕ) : Type 0 where
-  pub own : i < n → rep i ≡ i
   pub left : whole ≡ try_each f (alone_of mark (lowest rep i (n - i)))
 
 module _ (rep : ℕ → ℕ) (n : ℕ) (f : ℕ → Found) (mark : ℕ) (whole : Found) where
-  pub trying-found : (i : ℕ) (r : Reply) (b : Bool) → Trying rep n f mark whole i → i < n → r ≡ answer_of (f i) → b ≡ (is_breach r.kind || eqb mark 1) → b ≡ true → r ≡ answer_of whole
-  trying-found i r b t h e q w =
-      row-settles f mark i (lowest rep (i + 1) (n - (i + 1))) r b e q w
-      ∙ ap answer_of (sym (t.left ∙ ap (λ (l : List ℕ). try_each f (alone_of mark l)) (lowest-own rep n i h (t.own h))))
+  pub trying-other : (i x : ℕ) → Trying rep n f mark whole i → i < n → x ≡ rep i → (x ≡ i → ⊥) → Trying rep n f mark whole (i + 1)
+  trying-other i x t h e w =
+      record { left = t.left ∙ ap (λ (l : List ℕ). try_each f (alone_of mark l)) (lowest-other rep n i h (λ q. w (e ∙ q))) }
 
-  pub trying-next : (i j : ℕ) (r : Reply) (b : Bool) → Trying rep n f mark whole i → i < n → r ≡ answer_of (f i) → b ≡ (is_breach r.kind || eqb mark 1) → b ≡ false
-      → NextOwn rep n (i + 1) j → Trying rep n f mark whole j
-  trying-next i j r b t h e q w p =
+  pub trying-found : (i x : ℕ) (r : Reply) (b : Bool) → Trying rep n f mark whole i → i < n → x ≡ rep i → x ≡ i → r ≡ answer_of (f i)
+      → b ≡ (is_breach r.kind || eqb mark 1) → b ≡ true → r ≡ answer_of whole
+  trying-found i x r b t h ex own e q w =
+      row-settles f mark i (lowest rep (i + 1) (n - (i + 1))) r b e q w
+      ∙ ap answer_of (sym (t.left ∙ ap (λ (l : List ℕ). try_each f (alone_of mark l)) (lowest-own rep n i h (sym ex ∙ own))))
+
+  pub trying-next : (i x : ℕ) (r : Reply) (b : Bool) → Trying rep n f mark whole i → i < n → x ≡ rep i → x ≡ i → r ≡ answer_of (f i)
+      → b ≡ (is_breach r.kind || eqb mark 1) → b ≡ false → Trying rep n f mark whole (i + 1)
+  trying-next i x r b t h ex own e q w =
       record {
-        own = p.own;
         left =
-            t.left ∙ ap (λ (l : List ℕ). try_each f (alone_of mark l)) (lowest-own rep n i h (t.own h))
-            ∙ row-passes f mark i (lowest rep (i + 1) (n - (i + 1))) r b e q w ∙ ap (λ (l : List ℕ). try_each f (alone_of mark l)) p.same;
+            t.left ∙ ap (λ (l : List ℕ). try_each f (alone_of mark l)) (lowest-own rep n i h (sym ex ∙ own))
+            ∙ row-passes f mark i (lowest rep (i + 1) (n - (i + 1))) r b e q w;
       }
 
   pub trying-done : (i : ℕ) → Trying rep n f mark whole i → n ≤ i → nothing ≡ whole
@@ -236,19 +221,17 @@ module _ (read : ℕ → List ℕ → List ℕ → List ℕ) (dead : ℕ → Lis
   unfolding hunt_of
   hunt-leaf rows_for k chosen values variables h = let e : variables - k ≡ 0 = omega arith in rw e
 
-  pub trying_start : (rep : ℕ → ℕ) (n : ℕ) (free from : List ℕ) (k : ℕ) (chosen values : List ℕ) (variables j mark s i : ℕ) → k < variables → j ≡ k → mark ≡ get_or free j 0
-      → s ≡ start_of from k chosen → NextOwn rep n s i
+  pub trying_start : (rep : ℕ → ℕ) (n : ℕ) (free from : List ℕ) (k : ℕ) (chosen values : List ℕ) (variables j mark s : ℕ) → k < variables → j ≡ k → mark ≡ get_or free j 0
+      → s ≡ start_of from k chosen
       → Trying rep n (attempt_of read dead (hunt_of read dead (rows_of rep n free from) (variables - (k + 1)) (k + 1)) k chosen values) mark
-      (hunt_of read dead (rows_of rep n free from) (variables - k) k chosen values) i
+      (hunt_of read dead (rows_of rep n free from) (variables - k) k chosen values) s
   unfolding hunt_of rows_of
-  trying_start rep n free from k chosen values variables j mark s i h ej em es p =
+  trying_start rep n free from k chosen values variables j mark s h ej em es =
       record {
-        own = p.own;
         left =
             ap (λ m. hunt_of read dead (rows_of rep n free from) m k chosen values) e
             ∙ ap (λ m. try_each (attempt_of read dead (hunt_of read dead (rows_of rep n free from) (variables - (k + 1)) m) k chosen values) (rows_of rep n free from k chosen)) (sym (add-one k))
-            ∙ ap₂ (λ (m t : ℕ). try_each f (alone_of m (lowest rep t (n - t)))) (sym (em ∙ ap (λ x. get_or free x 0) ej)) (sym es)
-            ∙ ap (λ (l : List ℕ). try_each f (alone_of mark l)) p.same;
+            ∙ ap₂ (λ (m t : ℕ). try_each f (alone_of m (lowest rep t (n - t)))) (sym (em ∙ ap (λ x. get_or free x 0) ej)) (sym es);
       }
     where
       e : variables - k ≡ suc (variables - (k + 1))

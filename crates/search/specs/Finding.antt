@@ -2,11 +2,12 @@
 --     found_by, later_by    the first breach by a table, and the first after an assignment; what differs does so in the wider sense, whatever the table
 --     unfit_reply          the answer to columns that are not well-formed
 --     FindsIn, NextIn     the answers to any columns and any table, and any assignment
+--     FindsFor, NextFor   the same of a context and a rule that are lent
 --     next_of              the assignment of n rows that comes next after one
 --     Futile              whether there can be no breach, by p unequal p
 -- Assumes nothing.
 -- terms outside the table have the numbers from 65,536 on, above every entry of a table
-use Rattle.std.specs.Prelude.{Bool, true, false, List, [], ◌∷◌, ◌≡◌, ℕ, ◌+◌, ◌-◌, ◌<◌, get_or, set}
+use Rattle.std.specs.Prelude.{Bool, true, List, [], ◌∷◌, ◌≡◌, ℕ, ◌+◌, ◌-◌, ◌<◌, get_or, set}
 use Rattle.meaning.specs.Context.{Context}
 use Rattle.meaning.specs.Equality.{rep_at}
 use Rattle.meaning.specs.Rules.{Clause, Found}
@@ -15,8 +16,8 @@ use Rattle.meaning.specs.Columns.{context_from, clause_from}
 use Rattle.meaning.specs.Following.{differ_by}
 use Rattle.meaning.specs.FirstBy.{first_by}
 use Rattle.columns.specs.Fit.{FitContext, FitClause}
-use Rattle.closing.specs.declared.Contradiction.{Contradiction}
-use Rattle.closing.specs.declared.Contradiction.TheVariants as C
+use Rattle.columns.specs.declared.Context.{Context as Lent}
+use Rattle.columns.specs.declared.Rule.{Rule}
 use Rattle.search.specs.declared.Kind.TheVariants.{Unfit}
 use Rattle.search.specs.declared.Reply.{Reply}
 use Rattle.meaning.specs.Next.{next_by}
@@ -33,10 +34,6 @@ unfit_reply = record { kind = Unfit; places = 255 ∷ 255 ∷ 255 ∷ 255 ∷ []
 
 unfoldable pub next_of : ℕ → List ℕ → List ℕ
 next_of n after = set after (n - 1) (get_or after (n - 1) 0 + 1)
-
-abbrev pub is_clear : Contradiction → Bool
-is_clear (C.First n) = false
-is_clear C.Clear = true
 
 -- a table of two-byte entries; and where the answer is true, some literal is p unequal p and no stated difference has one representative by the closing
 pub record Futile (never : Bool) (rep own : ℕ → ℕ) (ds : List (ℕ × ℕ)) (b : Bool) : Type 0 where
@@ -58,3 +55,15 @@ pub data NextIn (symbols counts args : List ℕ) (rows : ℕ) (kinds lefts right
       (answer_of (later_by (context_from symbols counts args rows kinds lefts rights statements) table (clause_from shapes heads arities subs patterns signs firsts seconds literals) after))
   next-unfits : (FitContext symbols counts args rows kinds lefts rights statements → FitClause shapes heads arities subs patterns signs firsts seconds literals → ⊥)
       → NextIn symbols counts args rows kinds lefts rights statements table shapes heads arities subs patterns signs firsts seconds literals after unfit_reply
+
+abbrev pub FindsFor : Lent → List ℕ → Rule → Reply → Type 0
+FindsFor c table r =
+    FindsIn c.terms.symbols.now c.terms.counts.now c.terms.args.now c.terms.rows c.statements.kinds.now c.statements.lefts.now c.statements.rights.now
+    c.statements.count table r.patterns.kinds.now r.patterns.heads.now r.patterns.counts.now r.patterns.args.now r.patterns.rows r.literals.signs.now
+    r.literals.lefts.now r.literals.rights.now r.literals.count
+
+abbrev pub NextFor : Lent → List ℕ → Rule → List ℕ → Reply → Type 0
+NextFor c table r =
+    NextIn c.terms.symbols.now c.terms.counts.now c.terms.args.now c.terms.rows c.statements.kinds.now c.statements.lefts.now c.statements.rights.now
+    c.statements.count table r.patterns.kinds.now r.patterns.heads.now r.patterns.counts.now r.patterns.args.now r.patterns.rows r.literals.signs.now
+    r.literals.lefts.now r.literals.rights.now r.literals.count

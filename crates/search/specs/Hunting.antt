@@ -2,7 +2,6 @@
 --     stage_of, dead_of        the values after one level more, and whether a literal that is due there fails
 --     start_of, rows_of        the row that a variable begins with, and the rows that it takes
 --     hunt_of, enter_from      the first breach in which the variables before k have their chosen rows, after and before the values of level k are read
---     NextOwn                the next row that is its own representative
 --     answer_of               what is answered for what was found
 --     Ready, Hunting, Chosen what the search asks of its columns, and of the rows chosen so far
 -- Assumes nothing.
@@ -61,12 +60,6 @@ alone_of mark l = elim (eqb mark 1) [ true ↦ take 1 l | false ↦ l ]
 -- the rows of variable k that are their own representatives
 unfoldable pub rows_of : (ℕ → ℕ) → ℕ → List ℕ → List ℕ → ℕ → List ℕ → List ℕ
 rows_of rep n free from k chosen = alone_of (get_or free k 0) (lowest rep (start_of from k chosen) (n - start_of from k chosen))
-
--- of n rows, r is the first from row i on that is its own representative, or there is none from i on below n
-pub record NextOwn (rep : ℕ → ℕ) (n i r : ℕ) : Type 0 where
-  pub rises : i ≤ r
-  pub same : lowest rep i (n - i) ≡ lowest rep r (n - r)
-  pub own : r < n → rep r ≡ r
 
 unfoldable pub answer_of : Found → Reply
 answer_of (found a) = record { kind = Breach (length a); places = a ++ replicate (4 - length a) 255 }

@@ -2,3 +2,4 @@
 pub mod Testing
 pub mod Hunting
 pub mod Finding
+pub mod Lent

@@ -5,16 +5,15 @@
 ghost use Rattle.std.specs.Prelude.{◌≡◌, ◌≤◌, ◌<◌, length};
 ghost use Rattle.meaning.specs.Context.{differences_of};
 ghost use Rattle.meaning.specs.Equality.{rep_at};
-ghost use Rattle.meaning.specs.Columns.{statements_from, context_from};
-ghost use Rattle.differing.specs.Knowing.{Lends, Knows};
-ghost use Rattle.search.specs.Finding.{FindsIn, Futile, NextIn, is_clear, next_of, unfit_reply};
+ghost use Rattle.columns.specs.Lent.{statements_in, context_in};
+ghost use Rattle.differing.specs.Knowing.{LendsIn, Knows};
+ghost use Rattle.search.specs.Finding.{FindsFor, Futile, NextFor, next_of, unfit_reply};
 
-use closing::Contradiction;
-use size::{long, wide8};
+use columns::{Context, Rule, Statements};
+use differing::Classed;
 
 mod hunt;
 mod literal;
-mod size;
 
 // A breach of so many variables, none, or columns that are not well-formed.
 #[derive(Clone, Copy)]
@@ -25,6 +24,7 @@ pub enum Kind {
 }
 
 // The rows of the variables stand beside the kind, unused places 255.
+// The places are told with every kind, so they stand beside it.
 #[derive(Clone, Copy)]
 pub struct Reply {
     pub kind: Kind,
@@ -40,31 +40,11 @@ fn unfit() -> Reply
     }
 }
 
-fn is_clear(c: Contradiction) -> bool
-    ensures { result ≡ is_clear c }
-{
-    match c {
-        Contradiction::First(_) => false,
-        Contradiction::Clear => true,
-    }
-}
-
 // Whether there can be no breach: some literal is p unequal p, and the context does not contradict itself.
-fn futile<'a>(
-    never: bool,
-    kinds: &'a [u8; 510],
-    lefts: &'a [u16; 510],
-    rights: &'a [u16; 510],
-    statements: usize,
-    table: [u16; 255],
-    closed: &'a [u16; 255],
-) -> bool
-    ensures { Futile never (rep_at table) (rep_at closed.now) (differences_of (statements_from kinds.now lefts.now rights.now statements)) result }
+fn futile(never: bool, statements: &Statements, table: [u16; 255], closed: &[u16; 255]) -> bool
+    ensures { Futile never (rep_at table) (rep_at closed.now) (differences_of (statements_in statements.now)) result }
 {
-    if !never {
-        return false;
-    }
-    is_clear(closing::clash(kinds, lefts, rights, statements, closed))
+    never && closing::clash(statements, closed).is_none()
 }
 
 // The assignment of n rows that comes next after one.
@@ -72,236 +52,93 @@ fn later(after: [u16; 4], n: u8) -> [u32; 4]
     requires { (0 < n) × (n ≤ 4) }
     ensures { (result ≡ next_of n after) × (length after ≡ 4) }
 {
-    let mut from = [
-        long(after[0]),
-        long(after[1]),
-        long(after[2]),
-        long(after[3]),
+    let mut next = [
+        u32::from(after[0]),
+        u32::from(after[1]),
+        u32::from(after[2]),
+        u32::from(after[3]),
     ];
-    let k = wide8(n - 1);
-    from[k] = long(after[k]) + 1;
-    from
+    let k = usize::from(n - 1);
+    next[k] = u32::from(after[k]) + 1;
+    next
 }
 
 // The closing of the context, the marks of its busy classes and what is known of pairs are lent, so that over many searches each pair is asked once.
-pub fn find_with<'a>(
-    symbols: &'a [u16; 255],
-    counts: &'a [u8; 255],
-    args: &'a [u16; 1020],
-    rows: usize,
-    kinds: &'a [u8; 510],
-    lefts: &'a [u16; 510],
-    rights: &'a [u16; 510],
-    statements: usize,
-    table: &'a [u16; 255],
-    closed: &'a [u16; 255],
-    busy: &'a [u8; 255],
+pub fn find_with(
+    classed: &Classed,
+    table: &[u16; 255],
     known: &mut [u8; 65025],
-    shapes: &'a [u8; 64],
-    heads: &'a [u16; 64],
-    arities: &'a [u8; 64],
-    subs: &'a [u16; 256],
-    patterns: usize,
-    signs: &'a [u8; 16],
-    firsts: &'a [u16; 16],
-    seconds: &'a [u16; 16],
-    literals: usize,
+    rule: &Rule,
 ) -> Reply
-    requires lends { Lends symbols.now counts.now args.now rows kinds.now lefts.now rights.now statements closed.now busy.now }
-    requires knows { Knows (context_from symbols.now counts.now args.now rows kinds.now lefts.now rights.now statements) known.old }
-    ensures finds_in { FindsIn symbols.now counts.now args.now rows kinds.now lefts.now rights.now statements table.now shapes.now heads.now arities.now subs.now patterns signs.now firsts.now seconds.now literals result }
-    ensures knows_2 { Knows (context_from symbols.now counts.now args.now rows kinds.now lefts.now rights.now statements) known.new }
+    requires lends { LendsIn classed.now }
+    requires knows { Knows (context_in classed.now.context) known.old }
+    ensures finds_in { FindsFor classed.now.context table.now rule.now result }
+    ensures knows_2 { Knows (context_in classed.now.context) known.new }
 {
-    if !columns::fit_context(
-        symbols, counts, args, rows, kinds, lefts, rights, statements,
-    ) {
+    if !columns::fit_context(&classed.context) {
         return unfit();
     }
-    let p = plan::plan_clause(
-        shapes, heads, arities, subs, patterns, signs, firsts, seconds, literals,
-    );
-    if !p.fit {
+    let Some(p) = plan::plan_clause(rule) else {
         return unfit();
-    }
-    if futile(p.never, kinds, lefts, rights, statements, *table, closed) {
+    };
+    if futile(p.never, &classed.context.statements, *table, classed.closed) {
         return hunt::clear();
     }
-    hunt::start(
-        symbols,
-        counts,
-        args,
-        rows,
-        kinds,
-        lefts,
-        rights,
-        statements,
-        table,
-        closed,
-        busy,
-        known,
-        shapes,
-        heads,
-        arities,
-        subs,
-        patterns,
-        &p.levels,
-        &p.order,
-        &p.ends,
-        signs,
-        firsts,
-        seconds,
-        literals,
-        p.variables,
-        p.free,
-        [0; 4],
-    )
+    hunt::start(classed, table, known, rule, &p, p.free, [0; 4])
 }
 
 // The context is closed here, and nothing is known of pairs.
-pub fn find_in<'a>(
-    symbols: &'a [u16; 255],
-    counts: &'a [u8; 255],
-    args: &'a [u16; 1020],
-    rows: usize,
-    kinds: &'a [u8; 510],
-    lefts: &'a [u16; 510],
-    rights: &'a [u16; 510],
-    statements: usize,
-    table: &'a [u16; 255],
-    shapes: &'a [u8; 64],
-    heads: &'a [u16; 64],
-    arities: &'a [u8; 64],
-    subs: &'a [u16; 256],
-    patterns: usize,
-    signs: &'a [u8; 16],
-    firsts: &'a [u16; 16],
-    seconds: &'a [u16; 16],
-    literals: usize,
-) -> Reply
-    ensures { FindsIn symbols.now counts.now args.now rows kinds.now lefts.now rights.now statements table.now shapes.now heads.now arities.now subs.now patterns signs.now firsts.now seconds.now literals result }
+pub fn find_in(context: &Context, table: &[u16; 255], rule: &Rule) -> Reply
+    ensures { FindsFor context.now table.now rule.now result }
 {
-    let c = closing::close(
-        symbols, counts, args, rows, kinds, lefts, rights, statements,
-    );
-    let busy = further::busy_classes(
-        symbols, counts, args, rows, kinds, lefts, rights, statements, &c.table,
-    );
+    let c = closing::close(context);
+    let busy = further::busy_classes(context, &c.table);
     let mut known = differing::unknown();
-    find_with(
-        symbols, counts, args, rows, kinds, lefts, rights, statements, table, &c.table, &busy,
-        &mut known, shapes, heads, arities, subs, patterns, signs, firsts, seconds, literals,
-    )
+    let classed = Classed {
+        context: *context,
+        closed: &c.table,
+        busy: &busy,
+    };
+    find_with(&classed, table, &mut known, rule)
 }
 
 // The places of the assignment from the number of variables on are not read.
-pub fn next_with<'a>(
-    symbols: &'a [u16; 255],
-    counts: &'a [u8; 255],
-    args: &'a [u16; 1020],
-    rows: usize,
-    kinds: &'a [u8; 510],
-    lefts: &'a [u16; 510],
-    rights: &'a [u16; 510],
-    statements: usize,
-    table: &'a [u16; 255],
-    closed: &'a [u16; 255],
-    busy: &'a [u8; 255],
+pub fn next_with(
+    classed: &Classed,
+    table: &[u16; 255],
     known: &mut [u8; 65025],
-    shapes: &'a [u8; 64],
-    heads: &'a [u16; 64],
-    arities: &'a [u8; 64],
-    subs: &'a [u16; 256],
-    patterns: usize,
-    signs: &'a [u8; 16],
-    firsts: &'a [u16; 16],
-    seconds: &'a [u16; 16],
-    literals: usize,
+    rule: &Rule,
     after: [u16; 4],
 ) -> Reply
-    requires lends { Lends symbols.now counts.now args.now rows kinds.now lefts.now rights.now statements closed.now busy.now }
-    requires knows { Knows (context_from symbols.now counts.now args.now rows kinds.now lefts.now rights.now statements) known.old }
-    ensures next_in { NextIn symbols.now counts.now args.now rows kinds.now lefts.now rights.now statements table.now shapes.now heads.now arities.now subs.now patterns signs.now firsts.now seconds.now literals after result }
-    ensures knows_2 { Knows (context_from symbols.now counts.now args.now rows kinds.now lefts.now rights.now statements) known.new }
+    requires lends { LendsIn classed.now }
+    requires knows { Knows (context_in classed.now.context) known.old }
+    ensures next_in { NextFor classed.now.context table.now rule.now after result }
+    ensures knows_2 { Knows (context_in classed.now.context) known.new }
 {
-    if !columns::fit_context(
-        symbols, counts, args, rows, kinds, lefts, rights, statements,
-    ) {
+    if !columns::fit_context(&classed.context) {
         return unfit();
     }
-    let p = plan::plan_clause(
-        shapes, heads, arities, subs, patterns, signs, firsts, seconds, literals,
-    );
-    if !p.fit {
+    let Some(p) = plan::plan_clause(rule) else {
         return unfit();
-    }
+    };
     if p.variables == 0 {
         return hunt::clear();
     }
-    hunt::start(
-        symbols,
-        counts,
-        args,
-        rows,
-        kinds,
-        lefts,
-        rights,
-        statements,
-        table,
-        closed,
-        busy,
-        known,
-        shapes,
-        heads,
-        arities,
-        subs,
-        patterns,
-        &p.levels,
-        &p.order,
-        &p.ends,
-        signs,
-        firsts,
-        seconds,
-        literals,
-        p.variables,
-        [0; 4],
-        later(after, p.variables),
-    )
+    let from = later(after, p.variables);
+    hunt::start(classed, table, known, rule, &p, [0; 4], from)
 }
 
 // The places of the assignment from the number of variables on are not read.
-pub fn next_in<'a>(
-    symbols: &'a [u16; 255],
-    counts: &'a [u8; 255],
-    args: &'a [u16; 1020],
-    rows: usize,
-    kinds: &'a [u8; 510],
-    lefts: &'a [u16; 510],
-    rights: &'a [u16; 510],
-    statements: usize,
-    table: &'a [u16; 255],
-    shapes: &'a [u8; 64],
-    heads: &'a [u16; 64],
-    arities: &'a [u8; 64],
-    subs: &'a [u16; 256],
-    patterns: usize,
-    signs: &'a [u8; 16],
-    firsts: &'a [u16; 16],
-    seconds: &'a [u16; 16],
-    literals: usize,
-    after: [u16; 4],
-) -> Reply
-    ensures { NextIn symbols.now counts.now args.now rows kinds.now lefts.now rights.now statements table.now shapes.now heads.now arities.now subs.now patterns signs.now firsts.now seconds.now literals after result }
+pub fn next_in(context: &Context, table: &[u16; 255], rule: &Rule, after: [u16; 4]) -> Reply
+    ensures { NextFor context.now table.now rule.now after result }
 {
-    let c = closing::close(
-        symbols, counts, args, rows, kinds, lefts, rights, statements,
-    );
-    let busy = further::busy_classes(
-        symbols, counts, args, rows, kinds, lefts, rights, statements, &c.table,
-    );
+    let c = closing::close(context);
+    let busy = further::busy_classes(context, &c.table);
     let mut known = differing::unknown();
-    next_with(
-        symbols, counts, args, rows, kinds, lefts, rights, statements, table, &c.table, &busy,
-        &mut known, shapes, heads, arities, subs, patterns, signs, firsts, seconds, literals,
-        after,
-    )
+    let classed = Classed {
+        context: *context,
+        closed: &c.table,
+        busy: &busy,
+    };
+    next_with(&classed, table, &mut known, rule, after)
 }

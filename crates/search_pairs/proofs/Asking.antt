@@ -5,14 +5,13 @@
 --     classes-two, rows-classes            what following an equation asks, and what two classes ask
 --     asked-left, asked-right, asked-so    and for any two numbers
 -- Assumes nothing.
-use mathlib.Core.Bool.{Bool, true, false, not}
+use mathlib.Core.Bool.{Bool, true, false}
 use mathlib.Core.List.{List}
 use mathlib.Core.Path.{◌≡◌, refl, ap, ap₂, sym, ◌∙◌, subst}
 use mathlib.Core.Logic.{◌⊎◌, inl, inr}
 use Prim.Native.Nat.{ℕ, ◌+◌, ◌*◌, ◌/◌, ◌≤◌, ◌<◌}
 use native.Mathlib.Omega.{arith}
 use borrow.Author.Rules.{rules}
-use borrow.Author.Tests.{not-true, not-false}
 use lib.ListN.{length}
 use Rattle.meaning.specs.Context.{differences}
 use Rattle.meaning.specs.Equality.{rep_at}
@@ -44,11 +43,11 @@ module _ (n : ℕ) (sets : List ℕ) (x y : ℕ) where
   pub open-same : x ≡ y → Open n sets x y false
   open-same e = record { shut = λ _. inl e; other = λ z. false-true z refl }
 
-  pub open-apart : (b : Bool) → b ≡ beside_at n sets x y → not b ≡ true → Open n sets x y false
-  open-apart b e q = record { shut = λ _. inr (inl (sym e ∙ not-true b q)); other = λ z. false-true z refl }
+  pub open-apart : (b : Bool) → b ≡ beside_at n sets x y → b ≡ false → Open n sets x y b
+  open-apart b e q = record { shut = λ _. inr (inl (sym e ∙ q)); other = λ z. false-true z q }
 
-  pub open-left : (x ≡ y → ⊥) → Open n sets x y true
-  open-left d = record { shut = λ z. false-true refl z; other = λ _. d }
+  pub open-left : (b : Bool) → (x ≡ y → ⊥) → b ≡ true → Open n sets x y b
+  open-left b d e = record { shut = λ z. false-true e z; other = λ _. d }
 
   pub open-right : (x ≡ y → ⊥) → (b r : Bool) → b ≡ live_at n sets x → b ≡ false → r ≡ live_at n sets y → Open n sets x y r
   open-right d b r e f q = record { shut = λ z. inr (inr (sym e ∙ f, sym q ∙ z)); other = λ _. d }
@@ -80,11 +79,11 @@ module _ (rows table sets : List ℕ) (x y : ℕ) (labels work : List ℕ) (w : 
               (both said ex ey ∙ sym (ready.prepared.apart x y h.0 h.1) ∙ ap (λ (v : ℕ). apart_at v sets x y) (sym en) ∙ sym e ∙ q));
         }
 
-    pub settled-shut : (b r : Bool) → b ≡ apart_at n sets x y → b ≡ false → Open n sets x y r → not r ≡ true → Settled rows table sets x y labels work false
+    pub settled-shut : (b r : Bool) → b ≡ apart_at n sets x y → b ≡ false → Open n sets x y r → r ≡ false → Settled rows table sets x y labels work false
     settled-shut b r e q o f =
         record {
           blank = blank;
-          so = λ said ready ex ey. sym (go said ready ex ey ((subst (λ (v : ℕ). Open v sets x y r) en o).shut (not-true r f)));
+          so = λ said ready ex ey. sym (go said ready ex ey ((subst (λ (v : ℕ). Open v sets x y r) en o).shut f));
         }
       where
         go : (said : List ℕ) → Ready rows said table sets → rep_at table x ≡ x → rep_at table y ≡ y
@@ -108,7 +107,7 @@ few-at n m e h = subst (λ (v : ℕ). words_for v ≤ most_words) (sym e) h
 pub pair-at : (n m x y : ℕ) → n ≡ m → (x < m) × (y < m) → (x < n) × (y < n)
 pair-at n m x y e h = (omega (arith, h.0), omega (arith, h.1))
 
-pub classes-two : (rows table sets labels work : List ℕ) (x y n : ℕ) (r : Bool) → Classes rows table sets labels work x y → Open n sets x y r → not r ≡ false
+pub classes-two : (rows table sets labels work : List ℕ) (x y n : ℕ) (r : Bool) → Classes rows table sets labels work x y → Open n sets x y r → r ≡ true
     → TwoClasses rows table sets labels work x y
 classes-two rows table sets labels work x y n r w o f =
     record {
@@ -116,7 +115,7 @@ classes-two rows table sets labels work x y n r w o f =
       inside = w.inside;
       room = w.room;
       blank = w.blank;
-      ends = record { left = w.left; right = w.right; other = o.other (not-false r f) };
+      ends = record { left = w.left; right = w.right; other = o.other f };
     }
 
 pub rows-classes : (rows table sets labels work : List ℕ) (a b x y n : ℕ) → Laid rows → Inside (row_count rows) table → sets_size (row_count rows) ≤ length sets

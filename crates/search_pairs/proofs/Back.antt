@@ -1,11 +1,11 @@
 -- Labels taken back.
---     Restoring      the classes before k have their own label again
+--     Restoring      the classes before a place have their own label again
 -- Assumes nothing.
 use mathlib.Core.Bool.{false}
 use mathlib.Core.List.{List}
 use mathlib.Core.Path.{◌≡◌, refl, ap, ◌∙◌}
 use mathlib.Core.Logic.{⊎_elim}
-use Prim.Native.Nat.{ℕ, ◌+◌, ◌-◌, ◌≤◌, ◌<◌}
+use Prim.Native.Nat.{ℕ, ◌+◌, ◌≤◌, ◌<◌}
 use native.Mathlib.Omega.{arith}
 use native.Mathlib.Decide.{dec_lt, ℕ_discrete}
 use borrow.Author.Rules.{rules}
@@ -13,65 +13,62 @@ use lib.ListN.{length, set, length-set}
 use lib.Seq.{get_or-set_same, get_or-set_other}
 use Rattle.meaning.specs.Equality.{rep_at}
 use Rattle.meaning.proofs.Logic.{false-true}
-use Rattle.bits.specs.Sets.{has, Next, Emptied}
+use Rattle.bits.specs.Sets.{has, Emptied}
 use Rattle.search_pairs.specs.Ready.{words_for}
-use Rattle.search_pairs.specs.Steps.{Space, Labelled, Owned, Blank}
+use Rattle.search_pairs.specs.Steps.{Space, Labelled, ClassAt, NoClass, Owned, Blank}
+use Rattle.search_pairs.proofs.Members.{class-less}
 
-pub record Restoring (n w : ℕ) (labels₀ labels work : List ℕ) (k : ℕ) : Type 0 where
+pub record Restoring (n w : ℕ) (labels₀ labels work : List ℕ) (from : ℕ) : Type 0 where
   pub words : w ≡ words_for n
   pub space : Space n labels₀ work
   pub laid : Labelled n labels₀ work
   pub long : length labels ≡ length labels₀
-  pub done : (a : ℕ) → a < k → a < n → rep_at labels a ≡ a
-  pub same : (a : ℕ) → k ≤ a → rep_at labels a ≡ rep_at labels₀ a
-
--- a class that is not known has its own label
-unknown-own : {n w : ℕ} {labels work : List ℕ} → Labelled n labels work → w ≡ words_for n → (a : ℕ) → a < n → has work w a ≡ false → rep_at labels a ≡ a
-unknown-own {n} {w} {labels} {work} laid e a h f = ⊎_elim (λ o. o) (λ y. false-true (ap (λ (v : ℕ). has work v a) e ∙ y) f) (laid.moved a h)
+  pub done : (a : ℕ) → a < from → a < n → rep_at labels a ≡ a
+  pub same : (a : ℕ) → from ≤ a → rep_at labels a ≡ rep_at labels₀ a
 
 module _ (n w : ℕ) (labels₀ work : List ℕ) where
-  pub restoring-start : (k : ℕ) → w ≡ words_for n → Space n labels₀ work → Labelled n labels₀ work → Next work w w 0 k → Restoring n w labels₀ labels₀ work k
-  restoring-start k e space laid x =
-      record {
-        words = e;
-        space = space;
-        laid = laid;
-        long = refl;
-        done = λ a l h. unknown-own laid e a h (x.first a (omega arith) l);
-        same = λ a l. refl;
-      }
+  pub restoring-start : w ≡ words_for n → Space n labels₀ work → Labelled n labels₀ work → Restoring n w labels₀ labels₀ work 0
+  restoring-start e space laid =
+      record { words = e; space = space; laid = laid; long = refl; done = λ a l h. absurd (omega arith); same = λ a l. refl }
 
-  module _ (labels : List ℕ) (k : ℕ) (p : Restoring n w labels₀ labels work k) where
-    pub restoring_step : (v x k' : ℕ) → k < n → v ≡ k → x ≡ k + 1 → Next work w w x k' → Restoring n w labels₀ (set labels k v) work k'
-    restoring_step v x k' h ev ex m =
-        record {
-          words = p.words;
-          space = p.space;
-          laid = p.laid;
-          long = length-set labels k v ∙ p.long;
-          done = λ a l i. go a l i (dec_lt a k) (ℕ_discrete a k);
-          same = λ a l. after a (omega (arith, m.later (omega (arith, p.words))));
-        }
+  pub restoring-room : Space n labels₀ work → w ≡ words_for n → w + words_for n ≤ length work
+  restoring-room space e = omega (arith, space.work-long)
+
+  module _ (labels : List ℕ) (from : ℕ) (p : Restoring n w labels₀ labels work from) where
+    -- a class that is not known has its own label
+    stays : (a : ℕ) → from ≤ a → a < n → has work w a ≡ false → rep_at labels a ≡ a
+    stays a l i f =
+        p.same a l ∙ ⊎_elim (λ o. o) (λ y. false-true (ap (λ (v : ℕ). has work v a) p.words ∙ y) f) (p.laid.moved a i)
+
+    module _ (k : ℕ) (c : ClassAt n work w from k) where
+      pub restoring-small : k < 65536
+      restoring-small = omega (arith, c.inside, p.space.few)
+
+      pub restoring-inside : k < length labels
+      restoring-inside = omega (arith, c.inside, p.space.labels-long, p.long)
+
+      pub restoring_step : (v x : ℕ) → v ≡ k → x ≡ k + 1 → Restoring n w labels₀ (set labels k v) work x
+      restoring_step v x ev ex =
+          record {
+            words = p.words;
+            space = p.space;
+            laid = p.laid;
+            long = length-set labels k v ∙ p.long;
+            done = λ a l i. go a l i (dec_lt a from) (ℕ_discrete a k);
+            same = λ a l. get_or-set_other labels k a v 0 (λ z. omega arith) ∙ p.same a (omega (arith, c.later));
+          }
+        where
+          go : (a : ℕ) → a < x → a < n → Dec (a < from) → Dec (a ≡ k) → rep_at (set labels k v) a ≡ a
+          go a l i b (yes d) = rw d (get_or-set_same labels k v 0 restoring-inside ∙ ev)
+          go a l i (yes b) (no d) = get_or-set_other labels k a v 0 d ∙ p.done a b i
+          go a l i (no b) (no d) = get_or-set_other labels k a v 0 d ∙ stays a (omega arith) i (c.first a (omega arith) (omega arith))
+
+    pub restoring-done : NoClass n work w from → Owned n labels₀ labels
+    restoring-done c = record { long = p.long; own = λ a i. go a i (dec_lt a from) }
       where
-        after : (a : ℕ) → k < a → rep_at (set labels k v) a ≡ rep_at labels₀ a
-        after a l = get_or-set_other labels k a v 0 (λ z. omega arith) ∙ p.same a (omega arith)
-
-        go : (a : ℕ) → a < k' → a < n → Dec (a < k) → Dec (a ≡ k) → rep_at (set labels k v) a ≡ a
-        go a l i (yes b) d = get_or-set_other labels k a v 0 (λ z. omega arith) ∙ p.done a b i
-        go a l i (no b) (yes d) = rw d (get_or-set_same labels k v 0 (omega (arith, p.long, p.space.labels-long)) ∙ ev)
-        go a l i (no b) (no d) = after a (omega arith) ∙ unknown-own p.laid p.words a i (m.first a (omega arith) l)
-
-    pub restoring-less : (x k' : ℕ) → k < n → x ≡ k + 1 → Next work w w x k' → n - k' < n - k
-    restoring-less x k' h ex m = omega (arith, m.later (omega (arith, p.words)))
-
-    pub restoring-done : n ≤ k → Owned n labels₀ labels
-    restoring-done h = record { long = p.long; own = λ a i. p.done a (omega arith) i }
-
-    pub restoring-small : k < n → k < 65536
-    restoring-small h = omega (arith, p.space.few)
-
-    pub restoring-inside : k < n → k < length labels
-    restoring-inside h = omega (arith, p.space.labels-long, p.long)
+        go : (a : ℕ) → a < n → Dec (a < from) → rep_at labels a ≡ a
+        go a i (yes b) = p.done a b i
+        go a i (no b) = stays a (omega arith) i (c.none a (omega arith) i)
 
 pub blank-so : (n : ℕ) (labels work labels' work' : List ℕ) → Space n labels work → Owned n labels labels' → Emptied (length work) work' → Blank n labels' work'
 blank-so n labels work labels' work' s o e =
@@ -81,4 +78,4 @@ blank-so n labels work labels' work' s o e =
       none = e.words;
     }
 
-pub ruleset mine = (rules, restoring-start, restoring_step, restoring-less, restoring-done, restoring-small, restoring-inside, blank-so)
+pub ruleset mine = (rules, restoring-start, restoring_step, class-less, restoring-room, restoring-done, restoring-small, restoring-inside, blank-so)

@@ -28,8 +28,8 @@ use Rattle.bits.specs.Sets.{size, bit_at, has, United}
 use Rattle.bits.proofs.Words.{either-has, has_on}
 use Rattle.bits.proofs.Members.{size-most}
 use Rattle.search_pairs.specs.Ready.{words_for, most_words, over_at, apart_at}
-use Rattle.search_pairs.specs.Steps.{Space, Labelled, sets_size, marked_at, moved_at, Member, ApartFrom, Labels, Clashing, Marked, Moved, Joined, Meets, Meeting}
-use Rattle.search_pairs.proofs.Members.{Walk, walk_start, walk_step, walk-less, walk-done}
+use Rattle.search_pairs.specs.Steps.{Space, Labelled, sets_size, marked_at, moved_at, ClassAt, NoClass, MemberAt, NoMember, Own, ApartFrom, Labels, Clashing, Marked, Moved, Joined, Meets, Meeting}
+use Rattle.search_pairs.proofs.Members.{Walk, walk_start, walk_step, walk-done, class-less, member-less}
 
 -- ---- where a set stands
 
@@ -50,49 +50,46 @@ set-start n s w r few h e q = (q ∙ ap (λ (v : ℕ). s * v) e, omega (arith, s
 
 -- ---- members kept apart
 
-pub record Parting (n : ℕ) (sets labels work : List ℕ) (a y base k : ℕ) : Type 0 where
+pub record Parting (n : ℕ) (sets labels : List ℕ) (a y base from : ℕ) : Type 0 where
   pub at : base ≡ (n + n + a) * words_for n
-  pub walk : Walk n labels work y (λ b. apart_at n sets a b ≡ false) k
+  pub walk : Walk n labels y (λ b. apart_at n sets a b ≡ false) from
 
-module _ (n : ℕ) (sets labels work : List ℕ) (a y base : ℕ) where
-  pub parting-start : Labelled n labels work → (a < n) × (rep_at labels y ≡ y) → (base ≡ (n + n + a) * words_for n) × (base ≤ 65536) → Parting n sets labels work a y base y
-  parting-start laid e q = record { at = q.0; walk = walk_start laid e.1 }
+module _ (n : ℕ) (sets labels : List ℕ) (a y base : ℕ) where
+  pub parting-start : (base ≡ (n + n + a) * words_for n) × (base ≤ 65536) → Parting n sets labels a y base 0
+  parting-start q = record { at = q.0; walk = walk_start }
 
-  pub parting-inside : (k : ℕ) → Parting n sets labels work a y base k → (a < n) × (rep_at labels y ≡ y) → sets_size n ≤ length sets → k < n → base + k / 64 < length sets
-  parting-inside k p e l h = set-inside n (n + n + a) (length sets) base k (omega (arith, e.0)) l p.at h
+  module _ (from k : ℕ) (p : Parting n sets labels a y base from) (m : MemberAt n labels y from k) where
+    pub parting-inside : a < n → sets_size n ≤ length sets → base + k / 64 < length sets
+    parting-inside e l = set-inside n (n + n + a) (length sets) base k (omega arith) l p.at m.inside
 
-  pub parting-step : (k r x : ℕ) (b : Bool) → Labelled n labels work → Parting n sets labels work a y base k → k < n → b ≡ has sets base k → b ≡ false → x ≡ k + 1
-      → Member n labels work y x r → Parting n sets labels work a y base r
-  parting-step k r x b laid p h e f ex m =
-      record { at = p.at; walk = walk_step laid p.walk h (ap (λ (z : ℕ). has sets z k) (sym p.at) ∙ sym e ∙ f) ex m }
+    module _ (b : Bool) (e : b ≡ has sets base k) where
+      pub parting-step : (x : ℕ) → b ≡ false → x ≡ k + 1 → Parting n sets labels a y base x
+      parting-step x f ex = record { at = p.at; walk = walk_step p.walk m (ap (λ (z : ℕ). has sets z k) (sym p.at) ∙ sym e ∙ f) ex }
 
-  pub parting-found : (k : ℕ) (b : Bool) → Parting n sets labels work a y base k → k < n → b ≡ has sets base k → b ≡ true → ApartFrom n sets labels a y true
-  parting-found k b p h e f =
-      record {
-        found = λ _. (k, h, p.walk.here h, ap (λ (z : ℕ). has sets z k) (sym p.at) ∙ sym e ∙ f);
-        clear = λ z. false-true refl z;
-      }
+      pub parting-found : b ≡ true → ApartFrom n sets labels a y true
+      parting-found f =
+          record { found = λ _. (k, m.inside, m.here, ap (λ (z : ℕ). has sets z k) (sym p.at) ∙ sym e ∙ f); clear = λ z. false-true refl z }
 
-  pub parting-none : (k : ℕ) → Labelled n labels work → Parting n sets labels work a y base k → n ≤ k → ApartFrom n sets labels a y false
-  parting-none k laid p h = record { found = λ z. false-true z refl; clear = λ _. walk-done laid p.walk h }
+  pub parting-none : (from : ℕ) → Parting n sets labels a y base from → NoMember n labels y from → ApartFrom n sets labels a y false
+  parting-none from p m = record { found = λ z. false-true z refl; clear = λ _. walk-done p.walk m }
 
-pub record Clearing (n : ℕ) (sets labels work : List ℕ) (x y k : ℕ) : Type 0 where
-  pub walk : Walk n labels work x (λ a. (b : ℕ) → b < n → rep_at labels b ≡ y → apart_at n sets a b ≡ false) k
+pub record Clearing (n : ℕ) (sets labels : List ℕ) (x y from : ℕ) : Type 0 where
+  pub walk : Walk n labels x (λ a. (b : ℕ) → b < n → rep_at labels b ≡ y → apart_at n sets a b ≡ false) from
 
-module _ (n : ℕ) (sets labels work : List ℕ) (x y : ℕ) where
-  pub clearing-start : Labelled n labels work → Labels n labels x y → Clearing n sets labels work x y x
-  clearing-start laid e = record { walk = walk_start laid e.left-own }
+module _ (n : ℕ) (sets labels : List ℕ) (x y : ℕ) where
+  pub clearing-start : Clearing n sets labels x y 0
+  clearing-start = record { walk = walk_start }
 
-  pub clearing-step : (k r z : ℕ) (b : Bool) → Labelled n labels work → Clearing n sets labels work x y k → k < n → ApartFrom n sets labels k y b → b ≡ false → z ≡ k + 1
-      → Member n labels work x z r → Clearing n sets labels work x y r
-  clearing-step k r z b laid p h e f ez m = record { walk = walk_step laid p.walk h (e.clear f) ez m }
+  module _ (from k : ℕ) (p : Clearing n sets labels x y from) (m : MemberAt n labels x from k) (b : Bool) (e : ApartFrom n sets labels k y b) where
+    pub clearing-step : (z : ℕ) → b ≡ false → z ≡ k + 1 → Clearing n sets labels x y z
+    clearing-step z f ez = record { walk = walk_step p.walk m (e.clear f) ez }
 
-  pub clearing-found : (k : ℕ) (b : Bool) → Clearing n sets labels work x y k → k < n → ApartFrom n sets labels k y b → b ≡ true → Clashing n sets labels x y true
-  clearing-found k b p h e f =
-      record { found = λ _. let w : (b : ℕ) × (b < n) × (rep_at labels b ≡ y) × (apart_at n sets k b ≡ true) = e.found f in (k, w.0, h, w.1, p.walk.here h, w.2, w.3); clear = λ z. false-true refl z }
+    pub clearing-found : b ≡ true → Clashing n sets labels x y true
+    clearing-found f =
+        record { found = λ _. let w : (b : ℕ) × (b < n) × (rep_at labels b ≡ y) × (apart_at n sets k b ≡ true) = e.found f in (k, w.0, m.inside, w.1, m.here, w.2, w.3); clear = λ z. false-true refl z }
 
-  pub clearing-none : (k : ℕ) → Labelled n labels work → Clearing n sets labels work x y k → n ≤ k → Clashing n sets labels x y false
-  clearing-none k laid p h = record { found = λ z. false-true z refl; clear = λ _ a b i j e f. walk-done laid p.walk h a i e b j f }
+  pub clearing-none : (from : ℕ) → Clearing n sets labels x y from → NoMember n labels x from → Clashing n sets labels x y false
+  clearing-none from p m = record { found = λ z. false-true z refl; clear = λ _ a b i j e f. walk-done p.walk m a i e b j f }
 
 -- ---- rows marked
 
@@ -112,65 +109,59 @@ module _ {old more new : List ℕ} {b w : ℕ} (u : United old more new 0 b w) w
   unfolding has
   united-other base a h = ap (λ (x : ℕ). bit_at x (a % 64)) (u.others (base + a / 64) (inr (omega arith)))
 
-pub record Marking (n : ℕ) (sets labels : List ℕ) (z w : ℕ) (work₀ work : List ℕ) (k : ℕ) : Type 0 where
+pub record Marking (n : ℕ) (sets labels : List ℕ) (z w : ℕ) (work₀ work : List ℕ) (from : ℕ) : Type 0 where
   pub laid : Labelled n labels work₀
   pub space : Space n labels work₀
   pub words : w ≡ words_for n
   pub long : length work ≡ length work₀
   pub kept : (r : ℕ) → marked_at work₀ r ≡ true → marked_at work r ≡ true
   pub others : (a : ℕ) → moved_at n work a ≡ moved_at n work₀ a
-  pub walk : Walk n labels work₀ z (λ a. (r : ℕ) → r < n → over_at n sets a r ≡ true → marked_at work r ≡ true) k
-
--- the same members, as far as they are known
-member-same : {n : ℕ} {labels work work' : List ℕ} {z from r : ℕ} → ((a : ℕ) → moved_at n work' a ≡ moved_at n work a) → Member n labels work' z from r
-    → Member n labels work z from r
-member-same o m = record { later = m.later; here = m.here; first = λ a h l i v q. m.first a h l i (o a ∙ v) q }
+  pub walk : Walk n labels z (λ a. (r : ℕ) → r < n → over_at n sets a r ≡ true → marked_at work r ≡ true) from
 
 module _ (n : ℕ) (sets labels : List ℕ) (z w : ℕ) (work₀ : List ℕ) where
-  pub marking-start : Labelled n labels work₀ → Space n labels work₀ → rep_at labels z ≡ z → w ≡ words_for n → Marking n sets labels z w work₀ work₀ z
-  marking-start laid space e q = record { laid = laid; space = space; words = q; long = refl; kept = λ r m. m; others = λ a. refl; walk = walk_start laid e }
+  pub marking-start : Labelled n labels work₀ → Space n labels work₀ → w ≡ words_for n → Marking n sets labels z w work₀ work₀ 0
+  marking-start laid space q = record { laid = laid; space = space; words = q; long = refl; kept = λ r m. m; others = λ a. refl; walk = walk_start }
 
-  pub marking-room : (work : List ℕ) (k b : ℕ) → Marking n sets labels z w work₀ work k → sets_size n ≤ length sets → k < n
-      → (b ≡ k * words_for n) × (b ≤ 65536) → (0 + w ≤ length work) × (b + w ≤ length sets)
-  marking-room work k b p l h e = (omega (arith, p.space.work-long, p.long, p.words), omega (arith, set_room n k (length sets) (omega arith) l, e.0, p.words))
+  module _ (work : List ℕ) (from : ℕ) (p : Marking n sets labels z w work₀ work from) where
+    pub marking-space : Space n labels work
+    marking-space = record { few = p.space.few; labels-long = p.space.labels-long; work-long = p.long ∙ p.space.work-long }
 
-  pub marking-space : (work work' : List ℕ) (k b : ℕ) → Marking n sets labels z w work₀ work k → United work sets work' 0 b w → Space n labels work'
-  marking-space work work' k b p u = record { few = p.space.few; labels-long = p.space.labels-long; work-long = u.long ∙ p.long ∙ p.space.work-long }
+    pub marking-laid : Labelled n labels work
+    marking-laid = record { low = p.laid.low; own = p.laid.own; moved = λ a h. ⊎_elim (λ e. inl e) (λ e. inr (p.others a ∙ e)) (p.laid.moved a h) }
 
-  pub marking_step : (work work' : List ℕ) (k b r x : ℕ) → Marking n sets labels z w work₀ work k → k < n → (b ≡ k * words_for n) × (b ≤ 65536)
-      → United work sets work' 0 b w → x ≡ k + 1 → Member n labels work' z x r → Marking n sets labels z w work₀ work' r
-  marking_step work work' k b r x p h eb u ex m =
-      record {
-        laid = p.laid;
-        space = p.space;
-        words = p.words;
-        long = u.long ∙ p.long;
-        kept = λ s y. united-kept u s (p.kept s y);
-        others = same;
-        walk = walk_step p.laid before h fresh ex (member-same same m);
-      }
-    where
-      same : (a : ℕ) → moved_at n work' a ≡ moved_at n work₀ a
-      same a = united-other u (words_for n) a (omega (arith, p.words)) ∙ p.others a
+    module _ (k b : ℕ) (m : MemberAt n labels z from k) (eb : (b ≡ k * words_for n) × (b ≤ 65536)) where
+      pub marking-room : sets_size n ≤ length sets → (0 + w ≤ length work) × (b + w ≤ length sets)
+      marking-room l = (omega (arith, p.space.work-long, p.long, p.words), omega (arith, set_room n k (length sets) (omega (arith, m.inside)) l, eb.0, p.words))
 
-      before : Walk n labels work₀ z (λ a. (r : ℕ) → r < n → over_at n sets a r ≡ true → marked_at work' r ≡ true) k
-      before = record { from = p.walk.from; here = p.walk.here; seen = λ a l i q s y o. united-kept u s (p.walk.seen a l i q s y o) }
+      pub marking_step : (work' : List ℕ) (x : ℕ) → United work sets work' 0 b w → x ≡ k + 1 → Marking n sets labels z w work₀ work' x
+      marking_step work' x u ex =
+          record {
+            laid = p.laid;
+            space = p.space;
+            words = p.words;
+            long = u.long ∙ p.long;
+            kept = λ s y. united-kept u s (p.kept s y);
+            others = λ a. united-other u (words_for n) a (omega (arith, p.words)) ∙ p.others a;
+            walk = walk_step before m fresh ex;
+          }
+        where
+          before : Walk n labels z (λ a. (r : ℕ) → r < n → over_at n sets a r ≡ true → marked_at work' r ≡ true) from
+          before = record { seen = λ a l i q s y o. united-kept u s (p.walk.seen a l i q s y o) }
 
-      fresh : (r : ℕ) → r < n → over_at n sets k r ≡ true → marked_at work' r ≡ true
-      fresh s l o = united-new u s (omega (arith, p.words)) (ap (λ (c : ℕ). has sets c s) eb.0 ∙ o)
+          fresh : (s : ℕ) → s < n → over_at n sets k s ≡ true → marked_at work' s ≡ true
+          fresh s y o = united-new u s (omega (arith, p.words)) (ap (λ (v : ℕ). has sets v s) eb.0 ∙ o)
 
-  pub marking-done : (work : List ℕ) (k : ℕ) → Marking n sets labels z w work₀ work k → n ≤ k → Marked n sets labels z work₀ work
-  marking-done work k p h =
-      record { long = p.long; kept = p.kept; reached = λ a r i j e o. walk-done p.laid p.walk h a i e r j o; others = p.others }
+    pub marking-done : NoMember n labels z from → Marked n sets labels z work₀ work
+    marking-done m =
+        record { long = p.long; kept = p.kept; reached = λ a r i j e o. walk-done p.walk m a i e r j o; others = p.others }
 
 -- ---- a label gives way
 
-pub record Relabelling (n lo hi : ℕ) (labels₀ labels : List ℕ) (k : ℕ) : Type 0 where
+-- a class has its label after the change; or it is still to be looked at
+pub record Relabelling (n lo hi w : ℕ) (labels₀ labels work : List ℕ) (from : ℕ) : Type 0 where
+  pub words : w ≡ words_for n
   pub long : length labels ≡ length labels₀
-  pub from : hi ≤ k
-  pub here : k < n → rep_at labels₀ k ≡ hi
-  pub done : (a : ℕ) → a < k → a < n → rep_at labels a ≡ move lo hi (rep_at labels₀ a)
-  pub same : (a : ℕ) → k ≤ a → rep_at labels a ≡ rep_at labels₀ a
+  pub each : (a : ℕ) → a < n → (rep_at labels a ≡ move lo hi (rep_at labels₀ a)) ⊎ ((rep_at labels a ≡ rep_at labels₀ a) × (from ≤ a) × (a ≡ hi → ⊥))
 
 move-other : (lo hi x : ℕ) → (x ≡ hi → ⊥) → move lo hi x ≡ x
 move-other lo hi x h = ⊎_elim (λ w. absurd (h w.0)) (λ w. w.1) (move-cases lo hi x)
@@ -178,48 +169,59 @@ move-other lo hi x h = ⊎_elim (λ w. absurd (h w.0)) (λ w. w.1) (move-cases l
 move-here : (lo hi x : ℕ) → x ≡ hi → move lo hi x ≡ lo
 move-here lo hi x h = ⊎_elim (λ w. w.1) (λ w. absurd (w.0 h)) (move-cases lo hi x)
 
-module _ (n lo hi : ℕ) (labels₀ work : List ℕ) where
-  pub relabelling-start : Labelled n labels₀ work → (lo < hi) × (rep_at labels₀ hi ≡ hi) → Relabelling n lo hi labels₀ labels₀ hi
-  relabelling-start laid e =
-      record {
-        long = refl;
-        from = omega arith;
-        here = λ h. e.1;
-        done = λ a l i. sym (move-other lo hi (rep_at labels₀ a) (λ q. omega (arith, laid.low a i)));
-        same = λ a l. refl;
-      }
+move-twice : (lo hi x : ℕ) → lo < hi → move lo hi (move lo hi x) ≡ move lo hi x
+move-twice lo hi x h =
+    ⊎_elim (λ c. ap (move lo hi) c.1 ∙ move-other lo hi lo (λ e. omega arith) ∙ sym c.1) (λ c. ap (move lo hi) c.1) (move-cases lo hi x)
 
-  pub relabelling-step : (labels : List ℕ) (k v r x : ℕ) → Labelled n labels₀ work → Space n labels₀ work → Relabelling n lo hi labels₀ labels k → k < n → v ≡ lo → x ≡ k + 1
-      → Member n (set labels k v) work hi x r → Relabelling n lo hi labels₀ (set labels k v) r
-  relabelling-step labels k v r x laid space p h ev ex m =
-      record {
-        long = length-set labels k v ∙ p.long;
-        from = omega (arith, p.from, m.later (omega arith));
-        here = λ l. sym (after r (omega (arith, m.later (omega arith)))) ∙ m.here l;
-        done = λ a l i. go a l i (dec_lt a k) (ℕ_discrete a k);
-        same = λ a l. after a (omega (arith, m.later (omega arith)));
-      }
+pub moved-here : (lo hi x l : ℕ) → x ≡ l → x ≡ hi → lo ≡ move lo hi l
+moved-here lo hi x l e q = sym (move-here lo hi l (sym e ∙ q))
+
+pub moved-other : (lo hi x l : ℕ) → x ≡ l → (x ≡ hi → ⊥) → l ≡ move lo hi l
+moved-other lo hi x l e q = sym (move-other lo hi l (λ z. q (e ∙ z)))
+
+module _ (n lo hi w : ℕ) (labels₀ work : List ℕ) (laid : Labelled n labels₀ work) (space : Space n labels₀ work) (h : lo < hi) (o : Own n labels₀ hi) where
+  pub relabelling-start : (v : ℕ) → v ≡ lo → w ≡ words_for n → Relabelling n lo hi w labels₀ (set labels₀ hi v) work 0
+  relabelling-start v ev ew = record { words = ew; long = length-set labels₀ hi v; each = λ a i. go a (ℕ_discrete a hi) }
     where
-      after : (a : ℕ) → k < a → rep_at (set labels k v) a ≡ rep_at labels₀ a
-      after a l = get_or-set_other labels k a v 0 (λ z. omega arith) ∙ p.same a (omega arith)
+      go : (a : ℕ) → Dec (a ≡ hi) → (rep_at (set labels₀ hi v) a ≡ move lo hi (rep_at labels₀ a)) ⊎ ((rep_at (set labels₀ hi v) a ≡ rep_at labels₀ a) × (0 ≤ a) × (a ≡ hi → ⊥))
+      go a (yes d) =
+          inl (rw d (get_or-set_same labels₀ hi v 0 (omega (arith, o.inside, space.labels-long)) ∙ ev ∙ sym (move-here lo hi (rep_at labels₀ hi) o.own)))
+      go a (no d) = inr (get_or-set_other labels₀ hi a v 0 d, omega arith, d)
 
-      go : (a : ℕ) → a < r → a < n → Dec (a < k) → Dec (a ≡ k) → rep_at (set labels k v) a ≡ move lo hi (rep_at labels₀ a)
-      go a l i (yes b) d = get_or-set_other labels k a v 0 (λ z. omega arith) ∙ p.done a b i
-      go a l i (no b) (yes d) =
-          rw d (get_or-set_same labels k v 0 (omega (arith, p.long, space.labels-long)) ∙ ev ∙ sym (move-here lo hi (rep_at labels₀ k) (p.here h)))
-      go a l i (no b) (no d) =
-          let g : k < a = omega arith in
-          after a g ∙ sym (move-other lo hi (rep_at labels₀ a) (λ q. ⊎_elim (λ o. omega (arith, p.from)) (λ y. m.first a (omega arith) l i y (after a g ∙ q)) (laid.moved a i)))
+  module _ (labels : List ℕ) (from : ℕ) (p : Relabelling n lo hi w labels₀ labels work from) where
+    -- a class that is not known keeps its label, which is its own
+    stays : (a : ℕ) → a < n → has work w a ≡ false → (a ≡ hi → ⊥) → rep_at labels a ≡ rep_at labels₀ a → rep_at labels a ≡ move lo hi (rep_at labels₀ a)
+    stays a i f d e =
+        ⊎_elim (λ q. e ∙ sym (move-other lo hi (rep_at labels₀ a) (λ z. d (sym q ∙ z)))) (λ v. false-true (ap (λ (x : ℕ). has work x a) p.words ∙ v) f) (laid.moved a i)
 
-  pub relabelling-space : (labels : List ℕ) (k v : ℕ) → Space n labels₀ work → Relabelling n lo hi labels₀ labels k → Space n (set labels k v) work
-  relabelling-space labels k v s p = record { few = s.few; labels-long = length-set labels k v ∙ p.long ∙ s.labels-long; work-long = s.work-long }
+    module _ (k : ℕ) (c : ClassAt n work w from k) where
+      pub relabelling-inside : k < length labels
+      relabelling-inside = omega (arith, c.inside, space.labels-long, p.long)
 
-  pub relabelling-done : (labels : List ℕ) (k : ℕ) → Relabelling n lo hi labels₀ labels k → n ≤ k → Moved n lo hi labels₀ labels
-  relabelling-done labels k p h = record { long = p.long; so = λ a i. p.done a (omega arith) i }
+      pub relabelling-step : (v x : ℕ) → v ≡ move lo hi (rep_at labels k) → x ≡ k + 1 → Relabelling n lo hi w labels₀ (set labels k v) work x
+      relabelling-step v x ev ex = record { words = p.words; long = length-set labels k v ∙ p.long; each = λ a i. go a i (p.each a i) (ℕ_discrete a k) (dec_lt a k) }
+        where
+          go : (a : ℕ) → a < n → (rep_at labels a ≡ move lo hi (rep_at labels₀ a)) ⊎ ((rep_at labels a ≡ rep_at labels₀ a) × (from ≤ a) × (a ≡ hi → ⊥)) → Dec (a ≡ k) → Dec (a < k)
+              → (rep_at (set labels k v) a ≡ move lo hi (rep_at labels₀ a)) ⊎ ((rep_at (set labels k v) a ≡ rep_at labels₀ a) × (x ≤ a) × (a ≡ hi → ⊥))
+          go a i (inl e) (yes d) l =
+              inl (rw d (get_or-set_same labels k v 0 relabelling-inside ∙ ev ∙ ap (move lo hi) (rw d at e) ∙ move-twice lo hi (rep_at labels₀ k) h))
+          go a i (inr e) (yes d) l = inl (rw d (get_or-set_same labels k v 0 relabelling-inside ∙ ev ∙ ap (move lo hi) (rw d at e.0)))
+          go a i (inl e) (no d) l = inl (get_or-set_other labels k a v 0 d ∙ e)
+          go a i (inr e) (no d) (yes l) =
+              inl (get_or-set_other labels k a v 0 d ∙ stays a i (c.first a e.1 l) e.2 e.0)
+          go a i (inr e) (no d) (no l) = inr (get_or-set_other labels k a v 0 d ∙ e.0, omega arith, e.2)
 
--- the label fits where it is written
-pub label_small : (n lo hi k : ℕ) (labels₀ labels work : List ℕ) → Space n labels₀ work → (lo < hi) × (rep_at labels₀ hi ≡ hi) → Relabelling n lo hi labels₀ labels k → k < n → lo < 65536
-label_small n lo hi k labels₀ labels work s e p h = omega (arith, s.few, p.from, e.0)
+    pub relabelling-done : NoClass n work w from → Moved n lo hi labels₀ labels
+    relabelling-done c = record { long = p.long; so = λ a i. ⊎_elim (λ e. e) (λ e. stays a i (c.none a e.1 i) e.2 e.0) (p.each a i) }
+
+  pub label_small : lo < 65536
+  label_small = omega (arith, space.few, o.inside)
+
+  pub relabelling-room : w ≡ words_for n → w + words_for n ≤ length work
+  relabelling-room e = omega (arith, space.work-long)
+
+  pub relabelling-hi : hi < length labels₀
+  relabelling-hi = omega (arith, o.inside, space.labels-long)
 
 -- ---- how many rows are over a class
 
@@ -258,9 +260,15 @@ module _ (n : ℕ) (work work' : List ℕ) (hi : ℕ) (put : (length work' ≡ l
   known-here : moved_at n work' hi ≡ true
   known-here = flat work' hi ∙ put.1 (words_for n * 64 + hi) ∙ or_right (has work 0 (words_for n * 64 + hi)) _ (eq-eqb (words_for n * 64 + hi) (words_for n * 64 + hi) refl)
 
-pub lower-picked : (n : ℕ) (labels : List ℕ) (lo hi z : ℕ) → Labels n labels lo hi → (z ≡ lo) ⊎ (z ≡ hi) → rep_at labels z ≡ z
-lower-picked n labels lo hi z l (inl e) = rw e l.left-own
-lower-picked n labels lo hi z l (inr e) = rw e l.right-own
+pub lower-picked : (n : ℕ) (labels : List ℕ) (lo hi z : ℕ) → Labels n labels lo hi → (z ≡ lo) ⊎ (z ≡ hi) → Own n labels z
+lower-picked n labels lo hi z l (inl e) = rw e (record { inside = l.left; own = l.left-own })
+lower-picked n labels lo hi z l (inr e) = rw e (record { inside = l.right; own = l.right-own })
+
+pub labels_left : (n : ℕ) (labels : List ℕ) (x y : ℕ) → Labels n labels x y → Own n labels x
+labels_left n labels x y l = record { inside = l.left; own = l.left-own }
+
+pub labels_right : (n : ℕ) (labels : List ℕ) (x y : ℕ) → Labels n labels x y → Own n labels y
+labels_right n labels x y l = record { inside = l.right; own = l.right-own }
 
 module _ (n : ℕ) (sets labels work : List ℕ) (z : ℕ) where
   pub lower-space : (work' : List ℕ) → Space n labels work → Marked n sets labels z work work' → Space n labels work'
@@ -354,15 +362,17 @@ module _ (n : ℕ) (sets : List ℕ) (x y : ℕ) (labels work : List ℕ) where
         joined = λ _. j;
       }
 
-pub ruleset joins = (rules, weighing-start, weighing-inside, weighing-fits, weighing-step, lower-picked, lower-space, lower-laid, lower-joined, meets-space, meets-laid, meets-labels, meets-turned, meets-room, meets-less, joined-turned, meeting-clash, meeting-joined)
+pub ruleset joins = (rules, weighing-start, weighing-inside, weighing-fits, weighing-step, lower-picked, labels_right, lower-space, lower-laid, lower-joined, meets-space, meets-laid, meets-labels, meets-turned, meets-room, meets-less, joined-turned, meeting-clash, meeting-joined)
 
 pub ruleset mine = (
   rules,
   set-inside,
   set-start,
   set-fits,
-  label_small,
-  walk-less,
+  class-less,
+  member-less,
+  labels_left,
+  labels_right,
   parting-start,
   parting-inside,
   parting-step,
@@ -374,10 +384,17 @@ pub ruleset mine = (
   clearing-none,
   marking-start,
   marking-space,
+  marking-laid,
+  marking-room,
   marking_step,
   marking-done,
+  moved-here,
+  moved-other,
   relabelling-start,
-  relabelling-space,
+  relabelling-inside,
   relabelling-step,
   relabelling-done,
+  label_small,
+  relabelling-room,
+  relabelling-hi,
 )

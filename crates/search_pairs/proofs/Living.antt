@@ -13,7 +13,7 @@ use Prim.Native.Nat.{ℕ, ◌+◌, ◌-◌, ◌/◌, ◌%◌, ◌≤◌, ◌<◌
 use native.Mathlib.Omega.{arith}
 use native.Mathlib.Decide.{dec_lt}
 use borrow.Author.Rules.{rules}
-use borrow.Author.Tests.{not-true, not-false}
+use borrow.Author.Tests.{not-true}
 use lib.ListN.{length, get_or}
 use Rattle.meaning.specs.Context.{Row, row_at, differences, differences_of, left_at, right_at}
 use Rattle.meaning.specs.Equality.{rep_at}
@@ -158,13 +158,13 @@ module _ (n : ℕ) (rows table : List ℕ) (a b : List ℕ) (m : More n a b) whe
     pub spread-again : not f ≡ false → More n a c
     spread-again _ = more-then m p.more
 
-    pub spread-less : not f ≡ false → n - size n (live_at n c) < n - size n (live_at n b)
+    pub spread-less : f ≡ true → n - size n (live_at n c) < n - size n (live_at n b)
     spread-less e =
-        let q : Fresh n b c = p.fresh (not-false f e) in
+        let q : Fresh n b c = p.fresh e in
         omega (arith, size_less n (live_at n c) (live_at n b) q.class (λ j h. p.more.grown _ _ h) q.inside q.after q.before, size-most n (live_at n c))
 
-    pub spread-done : not f ≡ true → Spread n rows table a c
-    spread-done e = record { more = more-then m p.more; under = λ i h. p.under (not-true f e) i (omega arith) h }
+    pub spread-done : f ≡ false → Spread n rows table a c
+    spread-done e = record { more = more-then m p.more; under = λ i h. p.under e i (omega arith) h }
 
 -- ---- all sets
 

@@ -1,8 +1,10 @@
--- The members of a label: the label itself, which is the lowest, and those that are known to have another one's.
+-- The numbers of a set, and the members of a label.
+--     class-some .. class-none          the next number of a set
+--     Seeking, seeking-start .. -none   the next member of a label: the label itself, which is the lowest, or a class that is known to have another one's
 --     Walk                              the members before a place have been seen
---     walk_start, walk_step, walk-done  from the label on, one member more, and all
+--     walk_start, walk_step, walk-done  none, one member more, and all
 -- Assumes nothing.
-use mathlib.Core.Bool.{true}
+use mathlib.Core.Bool.{false}
 use mathlib.Core.List.{List}
 use mathlib.Core.Path.{◌≡◌, ap, sym, ◌∙◌}
 use mathlib.Core.Logic.{⊎_elim}
@@ -10,79 +12,107 @@ use Prim.Native.Nat.{ℕ, ◌+◌, ◌-◌, ◌≤◌, ◌<◌}
 use native.Mathlib.Omega.{arith}
 use native.Mathlib.Decide.{dec_lt, ℕ_discrete}
 use borrow.Author.Rules.{rules}
+use lib.ListN.{length}
 use Rattle.meaning.specs.Equality.{rep_at}
 use Rattle.meaning.proofs.Logic.{false-true}
-use Rattle.bits.specs.Sets.{has, Next}
+use Rattle.bits.specs.Sets.{has, NoneFrom, First}
 use Rattle.search_pairs.specs.Ready.{words_for}
-use Rattle.search_pairs.specs.Steps.{Space, Labelled, moved_at, Member}
+use Rattle.search_pairs.specs.Steps.{Space, Labelled, ClassAt, NoClass, MemberAt, NoMember, Own}
+
+-- ---- the next number of a set
+
+module _ (n : ℕ) (ws : List ℕ) (base w from : ℕ) (e : w ≡ words_for n) where
+  pub class-some : (k : ℕ) → First ws base w from k → k < n → ClassAt n ws base from k
+  class-some k f h = record { inside = h; later = f.later; here = f.here; first = f.first }
+
+  pub class-past : (k : ℕ) → First ws base w from k → n ≤ k → NoClass n ws base from
+  class-past k f h = record { none = λ a l i. f.first a l (omega arith) }
+
+  pub class-none : NoneFrom ws base w from → NoClass n ws base from
+  class-none f = record { none = λ a l i. f.none a l (omega (arith, e)) }
 
 -- ---- the next member
 
--- no known member with this label stands from a place on, before k
-pub record Seeking (n : ℕ) (labels work : List ℕ) (z from k : ℕ) : Type 0 where
-  pub later : from ≤ k
-  pub first : (a : ℕ) → from ≤ a → a < k → a < n → moved_at n work a ≡ true → rep_at labels a ≡ z → ⊥
-  pub here : k < n → moved_at n work k ≡ true
+-- no class with this label stands from one place on, before another
+pub record Seeking (n : ℕ) (labels : List ℕ) (z w from at : ℕ) : Type 0 where
+  pub words : w ≡ words_for n
+  pub past : z < from
+  pub later : from ≤ at
+  pub first : (a : ℕ) → from ≤ a → a < at → a < n → rep_at labels a ≡ z → ⊥
 
-module _ (n : ℕ) (labels work : List ℕ) (z from w k : ℕ) where
-  -- what `bits::next` answers
-  pub seeking-start : Space n labels work → from ≤ n → w ≡ words_for n → Next work w w from k → Seeking n labels work z from k
-  seeking-start space h e t =
-      record {
-        later = t.later (omega (arith, space.few));
-        first = λ a l m i y q. false-true y (ap (λ (x : ℕ). has work x a) (sym e) ∙ t.first a l m);
-        here = λ l. ap (λ (x : ℕ). has work x k) (sym e) ∙ t.here (omega arith);
-      }
+pub member-own : (n : ℕ) (labels work : List ℕ) (z from : ℕ) → Labelled n labels work → Own n labels z → from ≤ z → MemberAt n labels z from z
+member-own n labels work z from laid o h =
+    record { inside = o.inside; later = h; here = o.own; first = λ a l m q. omega (arith, laid.low a (omega (arith, o.inside)), q) }
 
-  pub seeking-step : Space n labels work → Seeking n labels work z from k → k < n → (y : ℕ) → y ≡ rep_at labels k → (y ≡ z → ⊥) → w ≡ words_for n
-      → (r x : ℕ) → x ≡ k + 1 → Next work w w x r → Seeking n labels work z from r
-  seeking-step space s h y ey ne e r x ex t =
-      record {
-        later = omega (arith, s.later, t.later (omega arith));
-        first = λ a l m i v q. go a l m i v q (dec_lt a k) (ℕ_discrete a k);
-        here = λ l. ap (λ (x : ℕ). has work x r) (sym e) ∙ t.here (omega arith);
-      }
-    where
-      go : (a : ℕ) → from ≤ a → a < r → a < n → moved_at n work a ≡ true → rep_at labels a ≡ z → Dec (a < k) → Dec (a ≡ k) → ⊥
-      go a l m i v q (yes b) d = s.first a l b i v q
-      go a l m i v q (no b) (yes d) = ne (ey ∙ ap (rep_at labels) (sym d) ∙ q)
-      go a l m i v q (no b) (no d) = false-true v (ap (λ (x : ℕ). has work x a) (sym e) ∙ t.first a (omega arith) m)
+module _ (n : ℕ) (labels work : List ℕ) (z w from : ℕ) where
+  pub seeking-start : z < from → w ≡ words_for n → Seeking n labels z w from from
+  seeking-start h e = record { words = e; past = h; later = omega arith; first = λ a l m. absurd (omega arith) }
 
-  pub seeking-less : Space n labels work → k < n → w ≡ words_for n → (r x : ℕ) → x ≡ k + 1 → Next work w w x r → n - r < n - k
-  seeking-less space h e r x ex t = omega (arith, t.later (omega arith))
+  pub seeking-room : Space n labels work → w ≡ words_for n → w + words_for n ≤ length work
+  seeking-room space e = omega (arith, space.work-long)
 
-module _ (n : ℕ) (labels work : List ℕ) (z from k : ℕ) where
-  pub seeking-found : Seeking n labels work z from k → (y : ℕ) → y ≡ rep_at labels k → y ≡ z → Member n labels work z from k
-  seeking-found s y ey e = record { later = λ _. s.later; here = λ _. sym ey ∙ e; first = s.first }
+  module _ (at : ℕ) (laid : Labelled n labels work) (s : Seeking n labels z w from at) where
+    -- a class that is not known has its own label
+    other : (a : ℕ) → from ≤ a → a < n → has work w a ≡ false → rep_at labels a ≡ z → ⊥
+    other a l h f q =
+        ⊎_elim (λ o. omega (arith, s.past)) (λ v. false-true (ap (λ (x : ℕ). has work x a) s.words ∙ v) f) (laid.moved a h)
 
-  pub seeking-none : Seeking n labels work z from k → n ≤ k → Member n labels work z from k
-  seeking-none s h = record { later = λ _. s.later; here = λ l. absurd (omega arith); first = s.first }
+    module _ (k : ℕ) (c : ClassAt n work w at k) (y : ℕ) (ey : y ≡ rep_at labels k) where
+      below : (a : ℕ) → from ≤ a → a < k → rep_at labels a ≡ z → ⊥
+      below a l m q = go (dec_lt a at)
+        where
+          go : Dec (a < at) → ⊥
+          go (yes b) = s.first a l b (omega (arith, c.inside)) q
+          go (no b) = other a l (omega (arith, c.inside)) (c.first a (omega arith) m) q
+
+      pub seeking-found : y ≡ z → MemberAt n labels z from k
+      seeking-found e = record { inside = c.inside; later = omega (arith, s.later, c.later); here = sym ey ∙ e; first = below }
+
+      pub seeking-step : (y ≡ z → ⊥) → (m : ℕ) → m ≡ k + 1 → Seeking n labels z w from m
+      seeking-step ne m em =
+          record { words = s.words; past = s.past; later = omega (arith, s.later, c.later); first = λ a l b i q. go a l b q (dec_lt a k) (ℕ_discrete a k) }
+        where
+          go : (a : ℕ) → from ≤ a → a < m → rep_at labels a ≡ z → Dec (a < k) → Dec (a ≡ k) → ⊥
+          go a l b q (yes t) d = below a l t q
+          go a l b q (no t) (yes d) = ne (ey ∙ ap (rep_at labels) (sym d) ∙ q)
+          go a l b q (no t) (no d) = omega arith
+
+    pub seeking-none : NoClass n work w at → NoMember n labels z from
+    seeking-none c = record { none = λ a l h q. go a l h q (dec_lt a at) }
+      where
+        go : (a : ℕ) → from ≤ a → a < n → rep_at labels a ≡ z → Dec (a < at) → ⊥
+        go a l h q (yes b) = s.first a l b h q
+        go a l h q (no b) = other a l h (c.none a (omega arith) h) q
+
+-- a number is later than the one before it
+pub class-less : (n : ℕ) (ws : List ℕ) (base from k m : ℕ) → ClassAt n ws base from k → m ≡ k + 1 → n - m < n - from
+class-less n ws base from k m c e = omega (arith, c.inside, c.later)
+
+pub member-less : (n : ℕ) (labels : List ℕ) (z from k m : ℕ) → MemberAt n labels z from k → m ≡ k + 1 → n - m < n - from
+member-less n labels z from k m c e = omega (arith, c.inside, c.later)
 
 -- ---- a walk over the members
 
-pub record Walk (n : ℕ) (labels work : List ℕ) (z : ℕ) (P : ℕ → Type 0) (k : ℕ) : Type 0 where
-  pub from : z ≤ k
-  pub here : k < n → rep_at labels k ≡ z
-  pub seen : (a : ℕ) → a < k → a < n → rep_at labels a ≡ z → P a
+pub record Walk (n : ℕ) (labels : List ℕ) (z : ℕ) (P : ℕ → Type 0) (from : ℕ) : Type 0 where
+  pub seen : (a : ℕ) → a < from → a < n → rep_at labels a ≡ z → P a
 
-module _ {n : ℕ} {labels work : List ℕ} {z : ℕ} {P : ℕ → Type 0} (laid : Labelled n labels work) where
-  pub walk_start : rep_at labels z ≡ z → Walk n labels work z P z
-  walk_start e = record { from = omega arith; here = λ h. e; seen = λ a l i q. absurd (omega (arith, laid.low a i)) }
+module _ {n : ℕ} {labels : List ℕ} {z : ℕ} {P : ℕ → Type 0} where
+  pub walk_start : Walk n labels z P 0
+  walk_start = record { seen = λ a l i q. absurd (omega arith) }
 
-  pub walk_step : {k r x : ℕ} → Walk n labels work z P k → k < n → P k → x ≡ k + 1 → Member n labels work z x r → Walk n labels work z P r
-  walk_step {k} {r} {x} w h p ex m =
-      record { from = omega (arith, w.from, m.later (omega arith)); here = m.here; seen = λ a l i q. go a l i q (dec_lt a k) (ℕ_discrete a k) }
+  pub walk_step : {from k m : ℕ} → Walk n labels z P from → MemberAt n labels z from k → P k → m ≡ k + 1 → Walk n labels z P m
+  walk_step {from} {k} {m} w c p em = record { seen = λ a l i q. go a l i q (dec_lt a from) (ℕ_discrete a k) }
     where
-      go : (a : ℕ) → a < r → a < n → rep_at labels a ≡ z → Dec (a < k) → Dec (a ≡ k) → P a
+      go : (a : ℕ) → a < m → a < n → rep_at labels a ≡ z → Dec (a < from) → Dec (a ≡ k) → P a
       go a l i q (yes b) d = w.seen a b i q
       go a l i q (no b) (yes d) = rw d p
-      go a l i q (no b) (no d) = absurd (⊎_elim (λ o. omega (arith, w.from)) (λ v. m.first a (omega arith) l i v q) (laid.moved a i))
+      go a l i q (no b) (no d) = absurd (c.first a (omega arith) (omega arith) q)
 
-  pub walk-done : {k : ℕ} → Walk n labels work z P k → n ≤ k → (a : ℕ) → a < n → rep_at labels a ≡ z → P a
-  walk-done w h a i q = w.seen a (omega arith) i q
+  pub walk-done : {from : ℕ} → Walk n labels z P from → NoMember n labels z from → (a : ℕ) → a < n → rep_at labels a ≡ z → P a
+  walk-done {from} w c a i q = go (dec_lt a from)
+    where
+      go : Dec (a < from) → P a
+      go (yes b) = w.seen a b i q
+      go (no b) = absurd (c.none a (omega arith) i q)
 
--- a member is later than the one before it
-pub walk-less : (n : ℕ) (labels work : List ℕ) (z k r x : ℕ) → k < n → x ≡ k + 1 → Member n labels work z x r → n - r < n - k
-walk-less n labels work z k r x h ex m = omega (arith, m.later (omega arith))
-
-pub ruleset mine = (rules, seeking-start, seeking-step, seeking-less, seeking-found, seeking-none)
+pub ruleset mine = (rules, class-some, class-past, class-none, class-less, member-own, seeking-start, seeking-room, seeking-found, seeking-step, seeking-none)

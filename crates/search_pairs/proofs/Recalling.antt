@@ -16,6 +16,7 @@ use native.Mathlib.Omega.{arith}
 use borrow.Author.Rules.{rules}
 use borrow.Author.Tests.{not-true, not-false}
 use lib.ListN.{length, get_or}
+use Rattle.std.specs.Prelude.{None, Some}
 use Rattle.meaning.specs.Equality.{rep_at}
 use Rattle.meaning.specs.Following.{differ_by}
 use Rattle.meaning.proofs.Logic.{false-true, or-none}
@@ -27,7 +28,7 @@ use Rattle.bits.proofs.Words.{none_has}
 use Rattle.search_pairs.specs.Ready.{words_for, most_words, Ready}
 use Rattle.search_pairs.specs.Steps.{Laid, Inside, sets_size, Blank, Asked}
 use Rattle.search_pairs.specs.Prepare.{Seat, Put}
-use Rattle.search_pairs.specs.Memo.{memo_size, known_at, differs_at, Memo, is_pair, Sought, Paired, Places, Noted, Asking, Recalled}
+use Rattle.search_pairs.specs.Memo.{memo_size, known_at, differs_at, Knows, Memo, is_pair, Sought, Paired, Places, Noted, Asking, Recalled}
 use Rattle.search_pairs.proofs.Putting.{put_other, pair-exact, ways}
 
 -- ---- blank words
@@ -74,6 +75,12 @@ known_so n x y base known r e q = q ∙ ap (λ (v : ℕ). has known v y) e.0
 
 pub told-so : (n x y base : ℕ) (known : List ℕ) (r : Bool) → (base ≡ (n + x) * words_for n) × (base ≤ 65536) → r ≡ has known base y → r ≡ differs_at n known x y
 told-so n x y base known r e q = q ∙ ap (λ (v : ℕ). has known v y) e.0
+
+pub knows-not : (n x y : ℕ) (known : List ℕ) (b : Bool) → b ≡ known_at n known x y → b ≡ false → Knows n known x y None
+knows-not n x y known b e q = sym e ∙ q
+
+pub knows-so : (n x y : ℕ) (known : List ℕ) (b r : Bool) → b ≡ known_at n known x y → b ≡ true → r ≡ differs_at n known x y → Knows n known x y (Some r)
+knows-so n x y known b r e q d = (sym e ∙ q, d)
 
 -- ---- one pair put into sets
 
@@ -233,6 +240,9 @@ module _ (n : ℕ) (rows table sets labels work known : List ℕ) (x y : ℕ) (w
         memo = w.memo;
       }
 
+  pub recall-told : (r : Bool) → Knows n known x y (Some r) → Recalled rows table sets x y labels work known r
+  recall-told r k = recall-known (known_at n known x y) r refl k.0 k.1
+
   pub settle-laid : Laid rows
   settle-laid = w.laid
 
@@ -300,6 +310,8 @@ pub ruleset mine = (
   told-room,
   known_so,
   told-so,
+  knows-not,
+  knows-so,
   pair-first,
   pair-second,
   pair_fits,
@@ -310,4 +322,4 @@ pub ruleset mine = (
   noted-true,
 )
 
-pub ruleset asks = (rules, recall-places, recall-known, settle-laid, settle-inside, settle-room, settle-blank, memo-noted, recall-left, recall-right, recall-asks, recall-rows)
+pub ruleset asks = (rules, recall-places, recall-told, settle-laid, settle-inside, settle-room, settle-blank, memo-noted, recall-left, recall-right, recall-asks, recall-rows)

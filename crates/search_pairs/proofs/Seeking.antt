@@ -5,7 +5,7 @@
 use mathlib.Core.Bool.{Bool, true, false}
 use mathlib.Core.List.{List, [], ◌∷◌, map}
 use mathlib.Core.Path.{◌≡◌, refl, ap, sym, ◌∙◌, subst}
-use Prim.Native.Nat.{ℕ, ◌+◌, ◌-◌, ◌*◌, ◌≤◌, ◌<◌}
+use Prim.Native.Nat.{ℕ, ◌+◌, ◌*◌, ◌≤◌, ◌<◌}
 use native.Mathlib.Omega.{arith}
 use native.Mathlib.Decide.{dec_lt, ℕ_discrete}
 use borrow.Author.Rules.{rules}
@@ -15,14 +15,15 @@ use Rattle.meaning.specs.Equality.{rep_at}
 use Rattle.meaning.proofs.Lists.{below_at}
 use Rattle.meaning.proofs.Logic.{false-true}
 use Rattle.meaning.proofs.Promised.{representatives-closed}
-use Rattle.bits.specs.Sets.{has, Next}
+use Rattle.std.specs.Prelude.{Option, None, Some}
+use Rattle.bits.specs.Sets.{has}
 use Rattle.runs.specs.Limits.{row_size}
 use Rattle.runs.specs.Runs.{row_count, count_in, arg_in, rows_of, context_of}
 use Rattle.runs.proofs.Saying.{length-rows, rows-at, arg-at, row-length}
-use Rattle.search_pairs.specs.Ready.{arg_of, arg_count, words_for, over_at, Ready}
-use Rattle.search_pairs.specs.Steps.{Laid, Space, Labelled, sets_size, Member, Inside, label_by, agree_by, Differs, OverClass, OverLabel, Mate}
+use Rattle.search_pairs.specs.Ready.{arg_of, arg_count, words_for, most_words, over_at, Ready}
+use Rattle.search_pairs.specs.Steps.{Laid, Space, Labelled, sets_size, ClassAt, NoClass, MemberAt, NoMember, Own, Inside, label_by, agree_by, Differs, Partner, NoneOver, NoneOverLabel, OverLabel, NoMate, Mate}
 use Rattle.search_pairs.proofs.Rows.{agree_by-true}
-use Rattle.search_pairs.proofs.Members.{Walk, walk_start, walk_step, walk-less, walk-done}
+use Rattle.search_pairs.proofs.Members.{Walk, walk_start, walk_step, walk-done, class-less, member-less}
 use Rattle.search_pairs.proofs.Joining.{set_room}
 
 -- ---- one row
@@ -36,101 +37,87 @@ module _ (rows : List Row) (table labels : List ℕ) (r s x y : ℕ) (ex : x ≡
 
 -- ---- the rows over a class
 
--- none of those before row s agrees and has another label
-pub record Passing (rows table sets labels : List ℕ) (a r n w base s : ℕ) : Type 0 where
+-- none of those before a place agrees and has another label
+pub record Passing (rows table sets labels : List ℕ) (a r n base from : ℕ) : Type 0 where
   pub count : n ≡ row_count rows
-  pub words : w ≡ words_for n
   pub at : base ≡ a * words_for n
-  pub none : (t : ℕ) → t < s → t < row_count rows → over_at (row_count rows) sets a t ≡ true → agree_by (label_by table labels) (rows_of rows) r t ≡ true
+  pub none : (t : ℕ) → t < from → t < row_count rows → over_at (row_count rows) sets a t ≡ true → agree_by (label_by table labels) (rows_of rows) r t ≡ true
       → label_by table labels r ≡ label_by table labels t
 
-pub seek-room : (m len a n w base : ℕ) → n ≡ m → w ≡ words_for n → (base ≡ a * words_for n) × (base ≤ 65536) → sets_size m ≤ len → a < m → base + w ≤ len
-seek-room m len a n w base en ew eb l h =
+pub seek-room : (m len a n base : ℕ) → n ≡ m → (base ≡ a * words_for n) × (base ≤ 65536) → sets_size m ≤ len → a < m → base + words_for n ≤ len
+seek-room m len a n base en eb l h =
     let z : a * words_for m + words_for m ≤ len = set_room m a len (omega arith) l in
     let q : base ≡ a * words_for m = eb.0 ∙ ap (λ (v : ℕ). a * words_for v) en in
-    let u : w ≡ words_for m = ew ∙ ap words_for en in
+    let u : words_for n ≡ words_for m = ap words_for en in
     omega arith
 
-module _ (rows table sets labels : List ℕ) (a r n w base s : ℕ) where
-  pub passing-start : n ≡ row_count rows → w ≡ words_for n → (base ≡ a * words_for n) × (base ≤ 65536) → Next sets base w 0 s → Passing rows table sets labels a r n w base s
-  passing-start en ew eb x =
-      record {
-        count = en;
-        words = ew;
-        at = eb.0;
-        none = λ t l h o e. false-true (ap (λ (v : ℕ). has sets v t) (eb.0 ∙ ap (λ (v : ℕ). a * words_for v) en) ∙ o) (x.first t (omega arith) l);
-      }
+pub seek-few : (rows : List ℕ) (n : ℕ) → Laid rows → n ≡ row_count rows → words_for n ≤ most_words
+seek-few rows n l e = rw e l.room
 
-  pub passing-room : Passing rows table sets labels a r n w base s → sets_size (row_count rows) ≤ length sets → a < row_count rows → base + w ≤ length sets
-  passing-room p l h =
-      let z : a * words_for (row_count rows) + words_for (row_count rows) ≤ length sets = set_room (row_count rows) a (length sets) (omega arith) l in
-      let q : base ≡ a * words_for (row_count rows) = p.at ∙ ap (λ (v : ℕ). a * words_for v) p.count in
-      let u : w ≡ words_for (row_count rows) = p.words ∙ ap words_for p.count in
-      omega arith
+module _ (rows table sets labels : List ℕ) (a r n base : ℕ) where
+  pub passing-start : n ≡ row_count rows → (base ≡ a * words_for n) × (base ≤ 65536) → Passing rows table sets labels a r n base 0
+  passing-start en eb = record { count = en; at = eb.0; none = λ t l. absurd (omega arith) }
 
-  module _ (p : Passing rows table sets labels a r n w base s) where
-    pub passing_step : (b : Bool) (x s' : ℕ) → s < n → Differs (rows_of rows) table labels r s b → b ≡ false → x ≡ s + 1 → Next sets base w x s'
-        → Passing rows table sets labels a r n w base s'
-    passing_step b x s' h d e ex m = record { count = p.count; words = p.words; at = p.at; none = λ t l i o q. go t l i o q (dec_lt t s) (ℕ_discrete t s) }
+  module _ (from : ℕ) (p : Passing rows table sets labels a r n base from) where
+    over : (t : ℕ) → over_at (row_count rows) sets a t ≡ true → has sets base t ≡ true
+    over t o = ap (λ (v : ℕ). has sets v t) (p.at ∙ ap (λ (v : ℕ). a * words_for v) p.count) ∙ o
+
+    module _ (s : ℕ) (c : ClassAt n sets base from s) where
+      pub passing-inside : s < row_count rows
+      passing-inside = omega (arith, c.inside, p.count)
+
+      module _ (b : Bool) (d : Differs (rows_of rows) table labels r s b) where
+        pub passing_step : (x : ℕ) → b ≡ false → x ≡ s + 1 → Passing rows table sets labels a r n base x
+        passing_step x e ex = record { count = p.count; at = p.at; none = λ t l i o q. go t l i o q (dec_lt t from) (ℕ_discrete t s) }
+          where
+            go : (t : ℕ) → t < x → t < row_count rows → over_at (row_count rows) sets a t ≡ true → agree_by (label_by table labels) (rows_of rows) r t ≡ true
+                → Dec (t < from) → Dec (t ≡ s) → label_by table labels r ≡ label_by table labels t
+            go t l i o q (yes y) z = p.none t y i o q
+            go t l i o q (no y) (yes z) = rw z (d.same e (rw z at q))
+            go t l i o q (no y) (no z) = false-true (over t o) (c.first t (omega arith) (omega arith))
+
+        pub passing-found : b ≡ true → Partner rows table labels r s
+        passing-found e = record { inside = passing-inside; agrees = d.agrees e; other = d.other e }
+
+    pub passing-none : NoClass n sets base from → NoneOver rows table sets labels a r
+    passing-none c = record { none = λ t i o q. go t i o q (dec_lt t from) }
       where
-        go : (t : ℕ) → t < s' → t < row_count rows → over_at (row_count rows) sets a t ≡ true → agree_by (label_by table labels) (rows_of rows) r t ≡ true
-            → Dec (t < s) → Dec (t ≡ s) → label_by table labels r ≡ label_by table labels t
-        go t l i o q (yes y) z = p.none t y i o q
-        go t l i o q (no y) (yes z) = rw z (d.same e (rw z at q))
-        go t l i o q (no y) (no z) =
-            false-true (ap (λ (v : ℕ). has sets v t) (p.at ∙ ap (λ (v : ℕ). a * words_for v) p.count) ∙ o) (m.first t (omega arith) l)
-
-    pub passing-less : (x s' : ℕ) → s < n → x ≡ s + 1 → Next sets base w x s' → n - s' < n - s
-    passing-less x s' h ex m = omega (arith, m.later (omega (arith, p.words)))
-
-    pub passing-found : (b : Bool) → s < n → Differs (rows_of rows) table labels r s b → b ≡ true → OverClass rows table sets labels a r s
-    passing-found b h d e = record { agrees = λ _. d.agrees e; other = λ _. d.other e; none = λ l. absurd (omega (arith, p.count)) }
-
-    pub passing-none : n ≤ s → OverClass rows table sets labels a r s
-    passing-none h =
-        record {
-          agrees = λ l. absurd (omega (arith, p.count));
-          other = λ l. absurd (omega (arith, p.count));
-          none = λ _ t i o q. p.none t (omega (arith, p.count)) i o q;
-        }
+        go : (t : ℕ) → t < row_count rows → over_at (row_count rows) sets a t ≡ true → agree_by (label_by table labels) (rows_of rows) r t ≡ true → Dec (t < from)
+            → label_by table labels r ≡ label_by table labels t
+        go t i o q (yes y) = p.none t y i o q
+        go t i o q (no y) = false-true (over t o) (c.none t (omega arith) (omega (arith, p.count)))
 
 -- ---- the rows over the members of a label
 
-pub record Walking (rows table sets labels work : List ℕ) (z r n k : ℕ) : Type 0 where
+pub record Walking (rows table sets labels : List ℕ) (z r n from : ℕ) : Type 0 where
   pub count : n ≡ row_count rows
-  pub walk : Walk (row_count rows) labels work z (λ a. (t : ℕ) → t < row_count rows → over_at (row_count rows) sets a t ≡ true
-      → agree_by (label_by table labels) (rows_of rows) r t ≡ true → label_by table labels r ≡ label_by table labels t) k
+  pub walk : Walk (row_count rows) labels z (λ a. (t : ℕ) → t < row_count rows → over_at (row_count rows) sets a t ≡ true
+      → agree_by (label_by table labels) (rows_of rows) r t ≡ true → label_by table labels r ≡ label_by table labels t) from
 
-module _ (rows table sets labels work : List ℕ) (z r n : ℕ) where
-  pub walking_start : n ≡ row_count rows → Labelled (row_count rows) labels work → rep_at labels z ≡ z → Walking rows table sets labels work z r n z
-  walking_start en laid e = record { count = en; walk = walk_start laid e }
+module _ (rows table sets labels : List ℕ) (z r n : ℕ) where
+  pub walking_start : n ≡ row_count rows → Walking rows table sets labels z r n 0
+  walking_start en = record { count = en; walk = walk_start }
 
-  module _ (k : ℕ) (p : Walking rows table sets labels work z r n k) where
-    pub walking-step : (x s k' : ℕ) → Labelled (row_count rows) labels work → k < n → OverClass rows table sets labels k r s → n ≤ s → x ≡ k + 1
-        → Member n labels work z x k' → Walking rows table sets labels work z r n k'
-    walking-step x s k' laid h o l ex m =
-        record {
-          count = p.count;
-          walk = walk_step laid p.walk (omega (arith, p.count)) (λ t i q e. o.none (omega (arith, p.count)) t i q e) ex
-              (subst (λ (v : ℕ). Member v labels work z x k') p.count m);
-        }
+  module _ (from : ℕ) (p : Walking rows table sets labels z r n from) where
+    pub walking-step : (k x : ℕ) → MemberAt n labels z from k → NoneOver rows table sets labels k r → x ≡ k + 1 → Walking rows table sets labels z r n x
+    walking-step k x m o ex =
+        record { count = p.count; walk = walk_step p.walk (subst (λ (v : ℕ). MemberAt v labels z from k) p.count m) o.none ex }
 
-    pub walking-found : (s : ℕ) → OverClass rows table sets labels k r s → s < n → OverLabel rows table sets labels z r s
-    walking-found s o h = record { agrees = o.agrees; other = o.other; none = λ l. absurd (omega (arith, p.count)) }
+    pub walking-none : NoMember n labels z from → NoneOverLabel rows table sets labels z r
+    walking-none m =
+        record { none = λ a t i e j o q. walk-done p.walk (subst (λ (v : ℕ). NoMember v labels z from) p.count m) a i e t j o q }
 
-    pub walking-none : Labelled (row_count rows) labels work → n ≤ k → OverLabel rows table sets labels z r n
-    walking-none laid h =
-        record {
-          agrees = λ l. absurd (omega (arith, p.count));
-          other = λ l. absurd (omega (arith, p.count));
-          none = λ _ a t i e j o q. walk-done laid p.walk (omega (arith, p.count)) a i e t j o q;
-        }
+    pub walking-inside : (k : ℕ) → MemberAt n labels z from k → k < row_count rows
+    walking-inside k m = omega (arith, m.inside, p.count)
 
-    pub walking-inside : k < n → k < row_count rows
-    walking-inside h = omega (arith, p.count)
+    pub walking-space : (work : List ℕ) → Space (row_count rows) labels work → Space n labels work
+    walking-space work s = subst (λ (v : ℕ). Space v labels work) (sym p.count) s
 
-    pub walking-space : Space (row_count rows) labels work → Space n labels work
-    walking-space s = subst (λ (v : ℕ). Space v labels work) (sym p.count) s
+    pub walking-laid : (work : List ℕ) → Labelled (row_count rows) labels work → Labelled n labels work
+    walking-laid work s = subst (λ (v : ℕ). Labelled v labels work) (sym p.count) s
+
+    pub walking-own : Own (row_count rows) labels z → Own n labels z
+    walking-own o = subst (λ (v : ℕ). Own v labels z) (sym p.count) o
 
 -- ---- among all rows
 
@@ -155,15 +142,15 @@ module _ (rows : List ℕ) (r : ℕ) (laid : Laid rows) (hr : r < row_count rows
   first-argument h = sym (ap (λ (x : Row). get_or x.args 0 0) (rows-at rows r hr) ∙ arg-at rows (r * row_size + 2) (count_in rows r) 0 h (laid.few r hr))
 
   module _ (table labels : List ℕ) (d z : ℕ) (ed : d ≡ count_in rows r) (some : d ≡ 0 → ⊥) (inside : Inside (row_count rows) table) (ez : z ≡ label_by table labels (arg_in rows r 0)) where
-    pub mate-label : (work : List ℕ) → Labelled (row_count rows) labels work → rep_at labels z ≡ z
-    mate-label work l =
-        rw ez
-        (l.own (rep_at table (arg_in rows r 0)) (inside.each (arg_in rows r 0) (rw (first-argument (omega (arith, some))) (argument-inside r hr (omega (arith, arguments, some))))))
+    pub mate-label : (work : List ℕ) → Labelled (row_count rows) labels work → Own (row_count rows) labels z
+    mate-label work l = rw ez (record { inside = omega (arith, l.low (rep_at table (arg_in rows r 0)) there, there); own = l.own (rep_at table (arg_in rows r 0)) there })
+      where
+        there : rep_at table (arg_in rows r 0) < row_count rows
+        there = inside.each (arg_in rows r 0) (rw (first-argument (omega (arith, some))) (argument-inside r hr (omega (arith, arguments, some))))
 
   module _ (table sets labels : List ℕ) where
-    pub mate-empty : (d s : ℕ) → d ≡ count_in rows r → d ≡ 0 → s ≡ row_count rows → Mate rows table sets labels r s
-    mate-empty d s ed e es =
-        record { agrees = λ l. absurd (omega arith); other = λ l. absurd (omega arith); none = λ said ready _ t h q. ap (rep_at labels) (one said ready t h q) }
+    pub mate-empty : (d : ℕ) → d ≡ count_in rows r → d ≡ 0 → NoMate rows table sets labels r
+    mate-empty d ed e = record { none = λ said ready t h q. ap (rep_at labels) (one said ready t h q) }
       where
         one : (said : List ℕ) → Ready rows said table sets → (t : ℕ) → t < row_count rows → agree_by (label_by table labels) (rows_of rows) r t ≡ true → rep_at table r ≡ rep_at table t
         one said ready t h q =
@@ -175,37 +162,44 @@ module _ (rows : List ℕ) (r : ℕ) (laid : Laid rows) (hr : r < row_count rows
       many : 0 < count_in rows r
       many = omega (arith, some)
 
-      pub mate-over : (s : ℕ) → OverLabel rows table sets labels z r s → Mate rows table sets labels r s
-      mate-over s o = record { agrees = o.agrees; other = o.other; none = none }
+      none : NoneOverLabel rows table sets labels z r → NoMate rows table sets labels r
+      none o = record { none = go }
         where
-          none : (said : List ℕ) → Ready rows said table sets → row_count rows ≤ s → (t : ℕ) → t < row_count rows
+          go : (said : List ℕ) → Ready rows said table sets → (t : ℕ) → t < row_count rows
               → agree_by (label_by table labels) (rows_of rows) r t ≡ true → label_by table labels r ≡ label_by table labels t
-          none said ready l t h q =
+          go said ready t h q =
               let w : (0 < arg_count (rows_of rows) t) × (label_by table labels (arg_of (rows_of rows) r 0) ≡ label_by table labels (arg_of (rows_of rows) t 0)) =
               map_first (label_by table labels) (row_at (rows_of rows) r).args (row_at (rows_of rows) t).args (omega (arith, arguments, many)) (agree_by-true (label_by table labels) (rows_of rows) r t q).1 in
-              o.none l (rep_at table (arg_of (rows_of rows) t 0)) t (inside.each _ (argument-inside t h w.0))
+              o.none (rep_at table (arg_of (rows_of rows) t 0)) t (inside.each _ (argument-inside t h w.0))
               (sym w.1 ∙ ap (label_by table labels) (sym (first-argument many)) ∙ sym ez)
               h
               (ready.prepared.over.each t 0 (omega (arith, length-rows rows)) w.0)
               q
 
+      pub mate-over : (s : Option ℕ) → OverLabel rows table sets labels z r s → Mate rows table sets labels r s
+      mate-over None o = none o
+      mate-over (Some s) o = o
+
 pub ruleset mine = (
   rules,
   differs-same,
   differs-agree,
+  class-less,
+  member-less,
+  seek-room,
+  seek-few,
   passing-start,
-  passing-room,
+  passing-inside,
   passing_step,
-  passing-less,
   passing-found,
   passing-none,
   walking_start,
   walking-step,
-  walking-found,
   walking-none,
   walking-inside,
   walking-space,
-  walk-less,
+  walking-laid,
+  walking-own,
   mate-empty,
   mate-label,
   mate-over,

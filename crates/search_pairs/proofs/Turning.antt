@@ -25,13 +25,13 @@ use Rattle.meaning.proofs.Lists.{below_at}
 use Rattle.meaning.proofs.Apartness.{apart_by-symmetric}
 use Rattle.meaning.proofs.FollowingClosing.{with-given}
 use Rattle.meaning.proofs.Progress.{move-cases, total-lt}
-use Rattle.bits.specs.Sets.{has, size, Low}
+use Rattle.bits.specs.Sets.{has, size}
 use Rattle.bits.proofs.Words.{has_on}
 use Rattle.bits.proofs.Members.{size-most, size_less}
 use Rattle.runs.specs.Runs.{row_count, rows_of, context_of}
 use Rattle.runs.proofs.Saying.{length-rows}
-use Rattle.search_pairs.specs.Ready.{arg_of, arg_count, words_for, apart_at, Ready}
-use Rattle.search_pairs.specs.Steps.{Meets, Two, Way, Space, Labelled, sets_size, Inside, Labels, label_by, marked_at, moved_at, Clashing, Joined, Meeting, Mate, remaining, Turned, SameSymbol, SameArgs, Blank, Ends, Followed, Laid, TurnAt}
+use Rattle.search_pairs.specs.Ready.{arg_of, arg_count, words_for, most_words, apart_at, Ready}
+use Rattle.search_pairs.specs.Steps.{Meets, Two, Way, Space, Labelled, sets_size, Inside, Labels, label_by, marked_at, moved_at, Clashing, Joined, Meeting, ClassAt, NoClass, Partner, NoMate, remaining, Turned, SameSymbol, SameArgs, Blank, Ends, Followed, Laid, TurnAt}
 use Rattle.search_pairs.proofs.Rows.{agree_by-true, agree_by-so}
 use Rattle.search_pairs.proofs.Ways.{way-start, way-join, way-clash, way_equal, way-unmark, way-done}
 
@@ -165,12 +165,12 @@ blank-labels n m labels work x y e b d =
 
 -- ---- one step
 
-module _ (rows table sets labels work : List ℕ) (r s : ℕ) (space : Space (row_count rows) labels work) (laid : Labelled (row_count rows) labels work) (hr : r < row_count rows)
-    (mate : Mate rows table sets labels r s) where
-  pub turn-none : (n : ℕ) (work' : List ℕ) → n ≡ row_count rows → n ≤ s → marked_at work r ≡ true
+module _ (rows table sets labels work : List ℕ) (r : ℕ) (space : Space (row_count rows) labels work) (laid : Labelled (row_count rows) labels work) (hr : r < row_count rows)
+    (mate : NoMate rows table sets labels r) where
+  pub turn-none : (work' : List ℕ) → marked_at work r ≡ true
       → (length work' ≡ length work) × ((j : ℕ) → has work' 0 j ≡ (has work 0 j && not (eqb j r))) → Turned rows table sets labels work labels work' false
   unfolding remaining
-  turn-none n work' en h m out =
+  turn-none work' m out =
       record {
         space = record { few = space.few; labels-long = space.labels-long; work-long = out.0 ∙ space.work-long };
         laid = record { low = laid.low; own = laid.own; moved = λ a l. ⊎_elim (λ e. inl e) (λ e. inr (same a ∙ e)) (laid.moved a l) };
@@ -179,7 +179,7 @@ module _ (rows table sets labels work : List ℕ) (r s : ℕ) (space : Space (ro
         way = λ said i j ready hi hj w _.
             way-unmark (context_of rows said) ready.fit ready.free (rep_at table) ready.classes i j (omega (arith, length-rows rows)) (omega (arith, length-rows rows))
             (rep_at labels) (marked_at work) w r (marked_at work')
-            (λ t l e f. mate.none said ready (omega arith) t (omega (arith, length-rows rows)) (agree_by-so (label_by table labels) (rows_of rows) r t e f))
+            (λ t l e f. mate.none said ready t (omega (arith, length-rows rows)) (agree_by-so (label_by table labels) (rows_of rows) r t e f))
             (λ t l d e. out.1 t ∙ and_both (has work 0 t) (not (eqb t r)) e (ap not (ne_eqb t r d)));
         wider = λ said i j ready hi hj w z. false-true z refl;
       }
@@ -210,44 +210,46 @@ module _ (rows table sets labels work : List ℕ) (r s : ℕ) (space : Space (ro
           m
           gone
 
-  pub turn-labels : (n x y : ℕ) → Inside (row_count rows) table → n ≡ row_count rows → s < n → x ≡ label_by table labels r → y ≡ label_by table labels s → Labels n labels x y
-  turn-labels n x y inside en h ex ey =
+module _ (rows table sets labels work : List ℕ) (r s : ℕ) (space : Space (row_count rows) labels work) (laid : Labelled (row_count rows) labels work) (hr : r < row_count rows)
+    (mate : Partner rows table labels r s) where
+  pub turn-labels : (n x y : ℕ) → Inside (row_count rows) table → n ≡ row_count rows → x ≡ label_by table labels r → y ≡ label_by table labels s → Labels n labels x y
+  turn-labels n x y inside en ex ey =
       record {
         left = omega (arith, en, ex, laid.low (rep_at table r) (inside.each r hr), inside.each r hr);
-        right = omega (arith, en, ey, laid.low (rep_at table s) (inside.each s (omega arith)), inside.each s (omega arith));
+        right = omega (arith, en, ey, laid.low (rep_at table s) (inside.each s mate.inside), inside.each s mate.inside);
         left-own = rw ex (laid.own (rep_at table r) (inside.each r hr));
-        right-own = rw ey (laid.own (rep_at table s) (inside.each s (omega arith)));
+        right-own = rw ey (laid.own (rep_at table s) (inside.each s mate.inside));
       }
 
-  pub turn-other : (n x y : ℕ) → n ≡ row_count rows → s < n → x ≡ label_by table labels r → y ≡ label_by table labels s → x ≡ y → ⊥
-  turn-other n x y en h ex ey e = mate.other (omega arith) (sym ex ∙ e ∙ ey)
+  pub turn-other : (x y : ℕ) → x ≡ label_by table labels r → y ≡ label_by table labels s → x ≡ y → ⊥
+  turn-other x y ex ey e = mate.other (sym ex ∙ e ∙ ey)
 
-  pub turn-meets : (n x y : ℕ) → Inside (row_count rows) table → sets_size (row_count rows) ≤ length sets → n ≡ row_count rows → s < n → x ≡ label_by table labels r → y ≡ label_by table labels s
+  pub turn-meets : (n x y : ℕ) → Inside (row_count rows) table → sets_size (row_count rows) ≤ length sets → n ≡ row_count rows → x ≡ label_by table labels r → y ≡ label_by table labels s
       → Meets n sets labels work x y
-  turn-meets n x y inside room en h ex ey =
+  turn-meets n x y inside room en ex ey =
       record {
         space = space-at n (row_count rows) labels work en space;
         laid = laid-at n (row_count rows) labels work en laid;
         room = room_at n (row_count rows) (length sets) en room;
-        labels-there = turn-labels n x y inside en h ex ey;
-        other = turn-other n x y en h ex ey;
+        labels-there = turn-labels n x y inside en ex ey;
+        other = turn-other x y ex ey;
       }
 
-  pub turn-met : (n x y : ℕ) (labels' work' : List ℕ) (b : Bool) → Inside (row_count rows) table → n ≡ row_count rows → s < n → x ≡ label_by table labels r → y ≡ label_by table labels s
+  pub turn-met : (n x y : ℕ) (labels' work' : List ℕ) (b : Bool) → Inside (row_count rows) table → n ≡ row_count rows → x ≡ label_by table labels r → y ≡ label_by table labels s
       → Meeting n sets x y labels work labels' work' b → Turned rows table sets labels work labels' work' b
-  turn-met n x y labels' work' b inside en h ex ey m = go b refl (subst (λ (v : ℕ). Meeting v sets x y labels work labels' work' b) en m)
+  turn-met n x y labels' work' b inside en ex ey m = go b refl (subst (λ (v : ℕ). Meeting v sets x y labels work labels' work' b) en m)
     where
       two : Labels (row_count rows) labels x y
-      two = subst (λ (v : ℕ). Labels v labels x y) en (turn-labels n x y inside en h ex ey)
+      two = subst (λ (v : ℕ). Labels v labels x y) en (turn-labels n x y inside en ex ey)
 
       hs : s < row_count rows
-      hs = omega arith
+      hs = mate.inside
 
       equal : (said : List ℕ) (i j : ℕ) → Ready rows said table sets → i < row_count rows → j < row_count rows
           → Way (context_of rows said) (rep_at table) i j (rep_at labels) (marked_at work)
           → Equal (rows_of rows) ((i, j) ∷ equations (context_of rows said)) (term_at (rows_of rows) r) (term_at (rows_of rows) s)
       equal said i j ready hi hj w =
-          let a : SameSymbol (rows_of rows) r s × SameArgs (rows_of rows) (label_by table labels) r s = agree_by-true (label_by table labels) (rows_of rows) r s (mate.agrees hs) in
+          let a : SameSymbol (rows_of rows) r s × SameArgs (rows_of rows) (label_by table labels) r s = agree_by-true (label_by table labels) (rows_of rows) r s mate.agrees in
           way_equal (context_of rows said) ready.fit ready.free (rep_at table) ready.classes i j (omega (arith, length-rows rows)) (omega (arith, length-rows rows))
           (rep_at labels) (marked_at work) w r s (omega (arith, length-rows rows)) (omega (arith, length-rows rows)) a.0 a.1
 
@@ -274,9 +276,8 @@ module _ (rows table sets labels work : List ℕ) (r s : ℕ) (space : Space (ro
 
 -- ---- the whole way
 
-pub record Going (rows table sets : List ℕ) (x y n w : ℕ) (labels work : List ℕ) : Type 0 where
+pub record Going (rows table sets : List ℕ) (x y n : ℕ) (labels work : List ℕ) : Type 0 where
   pub count : n ≡ row_count rows
-  pub words : w ≡ words_for n
   pub space : Space (row_count rows) labels work
   pub laid : Labelled (row_count rows) labels work
   pub joined : rep_at table x ≡ x → rep_at table y ≡ y → label_by table labels x ≡ label_by table labels y
@@ -296,12 +297,11 @@ blank-meets m n sets labels work x y en b d room =
       other = d.other;
     }
 
-pub going_start : (rows table sets : List ℕ) (x y n w : ℕ) (labels work labels' work' : List ℕ) (b : Bool) → n ≡ row_count rows → w ≡ words_for n → Blank (row_count rows) labels work
-    → Ends (row_count rows) x y → Meeting n sets x y labels work labels' work' b → b ≡ false → Going rows table sets x y n w labels' work'
-going_start rows table sets x y n w labels work labels' work' b en ew blank ends m e =
+pub going_start : (rows table sets : List ℕ) (x y n : ℕ) (labels work labels' work' : List ℕ) (b : Bool) → n ≡ row_count rows → Blank (row_count rows) labels work
+    → Ends (row_count rows) x y → Meeting n sets x y labels work labels' work' b → b ≡ false → Going rows table sets x y n labels' work'
+going_start rows table sets x y n labels work labels' work' b en blank ends m e =
     record {
       count = en;
-      words = ew;
       space = space-joined (row_count rows) sets x y labels work labels' work' blank.space join;
       laid = labelled-joined laid two join;
       joined = λ ex ey. one ex ey;
@@ -374,13 +374,12 @@ going-apart rows table sets x y n labels work labels' work' b en blank ends m e 
         inner : {a : ℕ} → a < row_count rows → a < length (rows_of rows)
         inner h = omega (arith, length-rows rows)
 
-module _ (rows table sets : List ℕ) (x y n w : ℕ) (labels work : List ℕ) (ends : Ends (row_count rows) x y) (g : Going rows table sets x y n w labels work) where
+module _ (rows table sets : List ℕ) (x y n : ℕ) (labels work : List ℕ) (ends : Ends (row_count rows) x y) (g : Going rows table sets x y n labels work) where
   pub going_step : (labels' work' : List ℕ) (b : Bool) → Inside (row_count rows) table → Turned rows table sets labels work labels' work' b → b ≡ false
-      → Going rows table sets x y n w labels' work'
+      → Going rows table sets x y n labels' work'
   going_step labels' work' b inside t e =
       record {
         count = g.count;
-        words = g.words;
         space = t.space;
         laid = t.laid;
         joined = λ ex ey. t.grown x y (g.joined ex ey) (inside.each x ends.left) (inside.each y ends.right);
@@ -398,8 +397,8 @@ module _ (rows table sets : List ℕ) (x y n w : ℕ) (labels work : List ℕ) (
   pub going_less : (labels' work' : List ℕ) (b : Bool) → Turned rows table sets labels work labels' work' b → b ≡ false → remaining (row_count rows) labels' work' < remaining (row_count rows) labels work
   going_less labels' work' b t e = t.less e
 
-  pub going_done : (r : ℕ) → Low work 0 w r → n ≤ r → Followed rows table sets x y labels work false
-  going_done r low h =
+  pub going_done : NoClass n work 0 0 → Followed rows table sets x y labels work false
+  going_done c =
       record {
         space = g.space;
         laid = g.laid;
@@ -407,23 +406,29 @@ module _ (rows table sets : List ℕ) (x y n w : ℕ) (labels work : List ℕ) (
             sym
             (way-done (context_of rows said) ready.fit ready.free (rep_at table) ready.classes x y (inner ends.left) (inner ends.right) (rep_at labels) (marked_at work)
             (g.way said ready ex ey)
-            (λ s l. low.first s (omega (arith, length-rows rows, g.count)))
+            (λ s l. c.none s (omega arith) (omega (arith, length-rows rows, g.count)))
             (g.joined ex ey));
       }
     where
       inner : {a : ℕ} → a < row_count rows → a < length (rows_of rows)
       inner k = omega (arith, length-rows rows)
 
-  pub going-turn : (r : ℕ) → Laid rows → Inside (row_count rows) table → sets_size (row_count rows) ≤ length sets → Low work 0 w r → r < n → TurnAt rows table sets labels work r
-  going-turn r rows-laid inside room low h =
+  pub going-turn : (r : ℕ) → Laid rows → Inside (row_count rows) table → sets_size (row_count rows) ≤ length sets → ClassAt n work 0 0 r → TurnAt rows table sets labels work r
+  going-turn r rows-laid inside room c =
       record {
         rows-laid = rows-laid;
         inside = inside;
         room = room;
         space = g.space;
         laid = g.laid;
-        row = omega (arith, g.count);
-        marked = low.here (omega (arith, g.words));
+        row = omega (arith, c.inside, g.count);
+        marked = c.here;
       }
 
-pub ruleset mine = (rules, turn-none, turn-labels, turn-other, turn-met, blank-laid, going_start, going-apart, going_step, going-clash, going_less, going_done, going-turn)
+  pub going-few : Laid rows → words_for n ≤ most_words
+  going-few l = rw g.count l.room
+
+  pub going-room : 0 + words_for n ≤ length work
+  going-room = omega (arith, g.space.work-long, ap words_for g.count)
+
+pub ruleset mine = (rules, turn-none, turn-labels, turn-other, turn-met, blank-laid, going_start, going-apart, going_step, going-clash, going_less, going_done, going-turn, going-few, going-room)

@@ -2,3 +2,4 @@ pub mod Memo
 pub mod Prepare
 pub mod Ready
 pub mod Steps
+pub mod Lent

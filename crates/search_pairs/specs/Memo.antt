@@ -1,13 +1,14 @@
 -- The memo of what was asked: two sets for each class, which pairs are known, and which of those differ.
 --     memo_size               how many words it has
 --     known_at, differs_at     the sets, one behind the other in a run
+--     Knows                  whether two classes differ, where it is known
 --     Memo                   each pair that is known has the right answer
 --     is_pair                 two numbers are those of a pair, either way round
 --     Sought, Paired         a pair put into sets, either way round
 --     Places, Noted          one answer noted
 --     Asking, Recalled       two numbers asked for, with a memo
 -- Assumes nothing.
-use Rattle.std.specs.Prelude.{Bool, true, false, ◌&&◌, ◌||◌, List, [], ◌∷◌, ◌≡◌, ◌⊎◌, ℕ, ◌+◌, ◌*◌, ◌<◌, ◌≤◌, length}
+use Rattle.std.specs.Prelude.{Bool, true, false, Option, None, Some, ◌&&◌, ◌||◌, List, [], ◌∷◌, ◌≡◌, ◌⊎◌, ℕ, ◌+◌, ◌*◌, ◌<◌, ◌≤◌, length}
 use Rattle.meaning.specs.ByTable.{apart_by}
 use Rattle.meaning.specs.Following.{differ_by}
 use Rattle.runs.specs.Runs.{row_count, context_of}
@@ -23,6 +24,11 @@ known_at n known a b = has known (a * words_for n) b
 
 abbrev pub differs_at : ℕ → List ℕ → ℕ → ℕ → Bool
 differs_at n known a b = has known ((n + a) * words_for n) b
+
+-- what is known of two classes: whether they differ
+abbrev pub Knows : ℕ → List ℕ → ℕ → ℕ → Option Bool → Type 0
+Knows n known x y None = known_at n known x y ≡ false
+Knows n known x y (Some r) = (known_at n known x y ≡ true) × (r ≡ differs_at n known x y)
 
 -- of a pair that is not known nothing is said
 pub record Memo (rows table sets known : List ℕ) : Type 0 where

@@ -5,7 +5,8 @@
 --     Way                            labels and marks on the way from a closed table, with the equation of rows i and j
 --     marked_at, moved_at              the marked rows, and the classes whose label is not their own
 --     Space, Labelled, sets_size      runs that are long enough; labels as they are between two steps
---     Member, Differs .. Mate        the next member of a label; the next row to join with, among the rows over a class, over a label, and among all
+--     NextClass, Member, Own         the next number of a set; the next member of a label; a class that is the label of its own
+--     Differs, Partner .. Mate       a row to join with, or none among the rows over a class, over a label, and among all
 --     Inside                         classes are rows
 --     ApartFrom, Labels, Clashing    members of labels kept apart
 --     Marked, Moved                  rows marked, and labels changed
@@ -17,7 +18,7 @@
 --     Owned                          labels taken back
 --     Open, Settled, Asked           whether an equation has to be followed; the answer for two classes, and for any two numbers
 -- Assumes nothing.
-use Rattle.std.specs.Prelude.{Bool, true, false, ◌&&◌, List, ◌∷◌, map, ◌≡◌, ◌⊎◌, ℕ, suc, ◌+◌, ◌*◌, ◌≤◌, ◌<◌, eqb, length, get_or}
+use Rattle.std.specs.Prelude.{Bool, true, false, Option, None, Some, ◌&&◌, List, ◌∷◌, map, ◌≡◌, ◌⊎◌, ℕ, suc, ◌+◌, ◌*◌, ◌≤◌, ◌<◌, eqb, length, get_or}
 use Rattle.meaning.specs.Context.{Row, row_at, Context, equations, differences}
 use Rattle.meaning.specs.Equality.{rep_at}
 use Rattle.meaning.specs.Formed.{Ordered}
@@ -97,11 +98,38 @@ pub record Labelled (n : ℕ) (labels work : List ℕ) : Type 0 where
 abbrev pub sets_size : ℕ → ℕ
 sets_size n = (n + n + n + 1) * words_for n
 
--- the next class from a place on that is known to have another one's label, namely z
-pub record Member (n : ℕ) (labels work : List ℕ) (z from r : ℕ) : Type 0 where
-  pub later : from ≤ n → from ≤ r
-  pub here : r < n → rep_at labels r ≡ z
-  pub first : (a : ℕ) → from ≤ a → a < r → a < n → moved_at n work a ≡ true → rep_at labels a ≡ z → ⊥
+-- the next of n numbers from a place on that a set has
+pub record ClassAt (n : ℕ) (ws : List ℕ) (base from k : ℕ) : Type 0 where
+  pub inside : k < n
+  pub later : from ≤ k
+  pub here : has ws base k ≡ true
+  pub first : (a : ℕ) → from ≤ a → a < k → has ws base a ≡ false
+
+pub record NoClass (n : ℕ) (ws : List ℕ) (base from : ℕ) : Type 0 where
+  pub none : (a : ℕ) → from ≤ a → a < n → has ws base a ≡ false
+
+abbrev pub NextClass : ℕ → List ℕ → ℕ → ℕ → Option ℕ → Type 0
+NextClass n ws base from None = NoClass n ws base from
+NextClass n ws base from (Some k) = ClassAt n ws base from k
+
+-- the next class from a place on that has label z
+pub record MemberAt (n : ℕ) (labels : List ℕ) (z from k : ℕ) : Type 0 where
+  pub inside : k < n
+  pub later : from ≤ k
+  pub here : rep_at labels k ≡ z
+  pub first : (a : ℕ) → from ≤ a → a < k → rep_at labels a ≡ z → ⊥
+
+pub record NoMember (n : ℕ) (labels : List ℕ) (z from : ℕ) : Type 0 where
+  pub none : (a : ℕ) → from ≤ a → a < n → rep_at labels a ≡ z → ⊥
+
+abbrev pub Member : ℕ → List ℕ → ℕ → ℕ → Option ℕ → Type 0
+Member n labels z from None = NoMember n labels z from
+Member n labels z from (Some k) = MemberAt n labels z from k
+
+-- z is one of n classes, and the label of its own
+pub record Own (n : ℕ) (labels : List ℕ) (z : ℕ) : Type 0 where
+  pub inside : z < n
+  pub own : rep_at labels z ≡ z
 
 -- row s agrees with row r and has another label
 pub record Differs (rows : List Row) (table labels : List ℕ) (r s : ℕ) (b : Bool) : Type 0 where
@@ -109,30 +137,42 @@ pub record Differs (rows : List Row) (table labels : List ℕ) (r s : ℕ) (b : 
   pub other : b ≡ true → label_by table labels r ≡ label_by table labels s → ⊥
   pub same : b ≡ false → agree_by (label_by table labels) rows r s ≡ true → label_by table labels r ≡ label_by table labels s
 
--- such a row; or a number that is no row, and none of the rows over class a is so
-pub record OverClass (rows table sets labels : List ℕ) (a r s : ℕ) : Type 0 where
-  pub agrees : s < row_count rows → agree_by (label_by table labels) (rows_of rows) r s ≡ true
-  pub other : s < row_count rows → label_by table labels r ≡ label_by table labels s → ⊥
-  pub none : row_count rows ≤ s → (t : ℕ) → t < row_count rows → over_at (row_count rows) sets a t ≡ true
+-- such a row
+pub record Partner (rows table labels : List ℕ) (r s : ℕ) : Type 0 where
+  pub inside : s < row_count rows
+  pub agrees : agree_by (label_by table labels) (rows_of rows) r s ≡ true
+  pub other : label_by table labels r ≡ label_by table labels s → ⊥
+
+-- none of the rows over class a is so
+pub record NoneOver (rows table sets labels : List ℕ) (a r : ℕ) : Type 0 where
+  pub none : (t : ℕ) → t < row_count rows → over_at (row_count rows) sets a t ≡ true
       → agree_by (label_by table labels) (rows_of rows) r t ≡ true → label_by table labels r ≡ label_by table labels t
 
+abbrev pub OverClass : List ℕ → List ℕ → List ℕ → List ℕ → ℕ → ℕ → Option ℕ → Type 0
+OverClass rows table sets labels a r None = NoneOver rows table sets labels a r
+OverClass rows table sets labels a r (Some s) = Partner rows table labels r s
+
 -- none of the rows over a member of label z
-pub record OverLabel (rows table sets labels : List ℕ) (z r s : ℕ) : Type 0 where
-  pub agrees : s < row_count rows → agree_by (label_by table labels) (rows_of rows) r s ≡ true
-  pub other : s < row_count rows → label_by table labels r ≡ label_by table labels s → ⊥
-  pub none : row_count rows ≤ s → (a t : ℕ) → a < row_count rows → rep_at labels a ≡ z → t < row_count rows → over_at (row_count rows) sets a t ≡ true
+pub record NoneOverLabel (rows table sets labels : List ℕ) (z r : ℕ) : Type 0 where
+  pub none : (a t : ℕ) → a < row_count rows → rep_at labels a ≡ z → t < row_count rows → over_at (row_count rows) sets a t ≡ true
       → agree_by (label_by table labels) (rows_of rows) r t ≡ true → label_by table labels r ≡ label_by table labels t
+
+abbrev pub OverLabel : List ℕ → List ℕ → List ℕ → List ℕ → ℕ → ℕ → Option ℕ → Type 0
+OverLabel rows table sets labels z r None = NoneOverLabel rows table sets labels z r
+OverLabel rows table sets labels z r (Some s) = Partner rows table labels r s
 
 -- classes are rows
 pub record Inside (n : ℕ) (table : List ℕ) : Type 0 where
   pub each : (i : ℕ) → i < n → rep_at table i < n
 
 -- none of all rows, where the table and its sets are the context's
-pub record Mate (rows table sets labels : List ℕ) (r s : ℕ) : Type 0 where
-  pub agrees : s < row_count rows → agree_by (label_by table labels) (rows_of rows) r s ≡ true
-  pub other : s < row_count rows → label_by table labels r ≡ label_by table labels s → ⊥
-  pub none : (said : List ℕ) → Ready rows said table sets → row_count rows ≤ s → (t : ℕ) → t < row_count rows
+pub record NoMate (rows table sets labels : List ℕ) (r : ℕ) : Type 0 where
+  pub none : (said : List ℕ) → Ready rows said table sets → (t : ℕ) → t < row_count rows
       → agree_by (label_by table labels) (rows_of rows) r t ≡ true → label_by table labels r ≡ label_by table labels t
+
+abbrev pub Mate : List ℕ → List ℕ → List ℕ → List ℕ → ℕ → Option ℕ → Type 0
+Mate rows table sets labels r None = NoMate rows table sets labels r
+Mate rows table sets labels r (Some s) = Partner rows table labels r s
 
 -- whether a class is kept apart from a member of label y
 pub record ApartFrom (n : ℕ) (sets labels : List ℕ) (a y : ℕ) (r : Bool) : Type 0 where

@@ -1,63 +1,11 @@
 // One equation followed from a closed table, and taken back.
-ghost use Rattle.search_pairs.specs.Steps.{Space, Labelled, TurnAt, Turned, Blank, TwoClasses, Followed, Owned};
+ghost use Rattle.search_pairs.specs.Steps.{Space, Labelled, Blank, Owned};
+ghost use Rattle.search_pairs.specs.Lent.{TurnAt, Turned, TwoClasses, Followed};
 
-use super::labels::{meet, words};
-use super::mates::{label, mate};
-use bits::{empty, lowest, next, remove};
+use super::Closed;
+use super::labels::{Sets, next_class, words};
+use bits::{empty, remove};
 use runs::row_count;
-
-// One marked row: where nothing agrees with it that has another label, it is marked no more; else the two labels become one. The answer is whether
-// members of them are kept apart.
-fn turn(
-    rows: &[u16],
-    table: &[u16],
-    sets: &[u64],
-    labels: &mut [u16],
-    work: &mut [u64],
-    r: usize,
-) -> bool
-    requires { TurnAt rows.now table.now sets.now labels.old work.old r }
-    ensures { Turned rows.now table.now sets.now labels.old work.old labels.new work.new result }
-{
-    let n = row_count(rows);
-    let s = mate(rows, table, sets, labels, work, r);
-    if n <= s {
-        remove(work, 0, r);
-        return false;
-    }
-    let x = label(table, labels, r);
-    let y = label(table, labels, s);
-    meet(sets, labels, work, n, x, y)
-}
-
-// Whether the equation of the classes x and y makes the sides of a difference equal. Labels and marks stay as they are at the end.
-pub(crate) fn follow(
-    rows: &[u16],
-    table: &[u16],
-    sets: &[u64],
-    labels: &mut [u16],
-    work: &mut [u64],
-    x: usize,
-    y: usize,
-) -> bool
-    requires { TwoClasses rows.now table.now sets.now labels.old work.old x y }
-    ensures { Followed rows.now table.now sets.now x y labels.new work.new result }
-{
-    let n = row_count(rows);
-    let w = words(n);
-    if meet(sets, labels, work, n, x, y) {
-        return true;
-    }
-    loop {
-        let r = lowest(work, 0, w);
-        if n <= r {
-            return false;
-        }
-        if turn(rows, table, sets, labels, work, r) {
-            return true;
-        }
-    }
-}
 
 // The classes that have another one's label get their own.
 fn own_labels(labels: &mut [u16], work: &[u64], n: usize)
@@ -66,10 +14,10 @@ fn own_labels(labels: &mut [u16], work: &[u64], n: usize)
     ensures { Owned n labels.old labels.new }
 {
     let w = words(n);
-    let mut k = next(work, w, w, 0);
-    while k < n {
+    let mut from = 0;
+    while let Some(k) = next_class(work, w, n, from) {
         labels[k] = k as u16;
-        k = next(work, w, w, k + 1);
+        from = k + 1;
     }
 }
 
@@ -81,4 +29,39 @@ pub(crate) fn take_back(labels: &mut [u16], work: &mut [u64], n: usize)
 {
     own_labels(labels, work, n);
     empty(work);
+}
+
+impl<'a> Closed<'a> {
+    // One marked row: where nothing agrees with it that has another label, it is marked no more; else the two labels become one. The answer is whether
+    // members of them are kept apart.
+    fn turn(&self, labels: &mut [u16], work: &mut [u64], r: usize) -> bool
+        requires { TurnAt self.now labels.old work.old r }
+        ensures { Turned self.now labels.old work.old labels.new work.new result }
+    {
+        let Some(s) = self.mate(labels, work, r) else {
+            remove(work, 0, r);
+            return false;
+        };
+        let n = row_count(self.rows);
+        let x = self.label(labels, r);
+        let y = self.label(labels, s);
+        Sets { sets: self.sets, n }.meet(labels, work, x, y)
+    }
+
+    // Whether the equation of the classes x and y makes the sides of a difference equal. Labels and marks stay as they are at the end.
+    pub(crate) fn follow(&self, labels: &mut [u16], work: &mut [u64], x: usize, y: usize) -> bool
+        requires { TwoClasses self.now labels.old work.old x y }
+        ensures { Followed self.now x y labels.new work.new result }
+    {
+        let n = row_count(self.rows);
+        if (Sets { sets: self.sets, n }).meet(labels, work, x, y) {
+            return true;
+        }
+        while let Some(r) = next_class(work, 0, n, 0) {
+            if self.turn(labels, work, r) {
+                return true;
+            }
+        }
+        false
+    }
 }

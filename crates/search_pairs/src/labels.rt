@@ -1,12 +1,20 @@
 // Labels of classes while an equation is followed. A label is the lowest class that has it; the classes that have another one's are known, so the
 // members of a label are found without a pass over all classes.
 ghost use Rattle.std.specs.Prelude.{◌⊎◌, ◌≡◌, ◌+◌, ◌*◌, ◌<◌, ◌≤◌, length};
-ghost use Rattle.meaning.specs.Equality.{rep_at};
+ghost use Rattle.meaning.specs.Closing.{move};
 ghost use Rattle.search_pairs.specs.Ready.{words_for, most_words};
-ghost use Rattle.search_pairs.specs.Steps.{Space, Labelled, sets_size, Member, ApartFrom, Clashing, Marked, Moved, Labels, Joined, Meets, Meeting};
+ghost use Rattle.search_pairs.specs.Steps.{Space, Labelled, sets_size, NextClass, Member, Own, Moved, Labels};
+ghost use Rattle.search_pairs.specs.Lent.{ApartFrom, Clashing, Marked, Joined, Meets, Meeting};
 
 use super::mates::at_place;
 use bits::{count, insert, member, next, unite};
+
+// The sets of n rows, one behind the other.
+#[derive(Clone, Copy)]
+pub(crate) struct Sets<'a> {
+    pub(crate) sets: &'a [u64],
+    pub(crate) n: usize,
+}
 
 // The members of a word.
 const WORD: usize = 64;
@@ -28,73 +36,52 @@ pub(crate) fn start(n: usize, s: usize) -> usize
     s * words(n)
 }
 
-// The next class from a place on that has another one's label, namely z; or a number that is no class.
-pub(crate) fn next_member(labels: &[u16], work: &[u64], n: usize, z: usize, from: usize) -> usize
-    requires space { Space n labels.now work.now }
-    requires from_le_n { from ≤ n }
-    ensures { Member n labels.now work.now z from result }
+// The next of n numbers from a place on that is in the set whose words start at `base`.
+pub(crate) fn next_class(set: &[u64], base: usize, n: usize, from: usize) -> Option<usize>
+    requires n_bound { words_for n ≤ most_words }
+    requires base_in_bounds { base + words_for n ≤ length set.now }
+    ensures { NextClass n set.now base from result }
 {
+    let k = next(set, base, words(n), from)?;
+    if k < n { Some(k) } else { None }
+}
+
+// The next class from a place on that has label z.
+pub(crate) fn next_member(
+    labels: &[u16],
+    work: &[u64],
+    n: usize,
+    z: usize,
+    from: usize,
+) -> Option<usize>
+    requires space { Space n labels.now work.now }
+    requires labelled { Labelled n labels.now work.now }
+    requires own { Own n labels.now z }
+    ensures { Member n labels.now z from result }
+{
+    if from <= z {
+        return Some(z);
+    }
     let w = words(n);
-    let mut k = next(work, w, w, from);
-    while k < n {
+    let mut at = from;
+    while let Some(k) = next_class(work, w, n, at) {
         if at_place(labels, k) == z {
-            return k;
+            return Some(k);
         }
-        k = next(work, w, w, k + 1);
+        at = k + 1;
     }
-    k
+    None
 }
 
-// Whether class a is kept apart from a member of label y.
-fn apart_from(sets: &[u64], labels: &[u16], work: &[u64], n: usize, a: usize, y: usize) -> bool
-    requires space { Space n labels.now work.now }
-    requires labelled { Labelled n labels.now work.now }
-    requires n_in_bounds { sets_size n ≤ length sets.now }
-    requires a_lt_n { (a < n) × (rep_at labels.now y ≡ y) }
-    ensures { ApartFrom n sets.now labels.now a y result }
+// The label of a class, once label hi has given way to lo.
+fn moved(lo: usize, hi: usize, label: u16) -> u16
+    requires { lo < 65536 }
+    ensures { result ≡ move lo hi label }
 {
-    let base = start(n, n + n + a);
-    let mut k = y;
-    while k < n {
-        if member(sets, base, k) {
-            return true;
-        }
-        k = next_member(labels, work, n, y, k + 1);
-    }
-    false
-}
-
-// Whether a member of label x is kept apart from a member of label y.
-fn clashing(sets: &[u64], labels: &[u16], work: &[u64], n: usize, x: usize, y: usize) -> bool
-    requires space { Space n labels.now work.now }
-    requires labelled { Labelled n labels.now work.now }
-    requires n_in_bounds { sets_size n ≤ length sets.now }
-    requires labels { Labels n labels.now x y }
-    ensures { Clashing n sets.now labels.now x y result }
-{
-    let mut k = x;
-    while k < n {
-        if apart_from(sets, labels, work, n, k, y) {
-            return true;
-        }
-        k = next_member(labels, work, n, x, k + 1);
-    }
-    false
-}
-
-// The rows over the members of label z are marked.
-fn mark_over(sets: &[u64], labels: &[u16], work: &mut [u64], n: usize, z: usize)
-    requires space { Space n labels.now work.old }
-    requires labelled { Labelled n labels.now work.old }
-    requires n_in_bounds { sets_size n ≤ length sets.now }
-    requires z_value { rep_at labels.now z ≡ z }
-    ensures { Marked n sets.now labels.now z work.old work.new }
-{
-    let w = words(n);
-    let mut k = z;
-    while k < n {
-        unite(work, 0, sets, start(n, k), w);
-        k = next_member(labels, work, n, z, k + 1);
+    if usize::from(label) == hi {
+        lo as u16
+    } else {
+        label
     }
 }
 
@@ -102,89 +89,139 @@ fn mark_over(sets: &[u64], labels: &[u16], work: &mut [u64], n: usize, z: usize)
 fn relabel(labels: &mut [u16], work: &[u64], n: usize, lo: usize, hi: usize)
     requires space { Space n labels.old work.now }
     requires labelled { Labelled n labels.old work.now }
-    requires lo_lt_hi { (lo < hi) × (rep_at labels.old hi ≡ hi) }
+    requires lo_lt_hi { lo < hi }
+    requires own { Own n labels.old hi }
     ensures { Moved n lo hi labels.old labels.new }
 {
-    let mut k = hi;
-    while k < n {
-        labels[k] = lo as u16;
-        k = next_member(labels, work, n, hi, k + 1);
-    }
-}
-
-// How many rows are over a class.
-fn weight(sets: &[u64], n: usize, a: usize) -> u32
-    requires n_bound { words_for n ≤ most_words }
-    requires n_in_bounds { sets_size n ≤ length sets.now }
-    requires a_lt_n { a < n }
-{
+    labels[hi] = lo as u16;
     let w = words(n);
-    let base = start(n, a);
-    let mut sum: u32 = 0;
-    let mut i: usize = 0;
-    while i < w {
-        sum += count(sets[base + i]);
-        i += 1;
-    }
-    sum
-}
-
-// Of two classes the one with fewer rows over it.
-fn lighter(sets: &[u64], n: usize, a: usize, b: usize) -> usize
-    requires n_bound { words_for n ≤ most_words }
-    requires n_in_bounds { sets_size n ≤ length sets.now }
-    requires a_lt_n { (a < n) × (b < n) }
-    ensures { (result ≡ a) ⊎ (result ≡ b) }
-{
-    if weight(sets, n, a) <= weight(sets, n, b) {
-        a
-    } else {
-        b
+    let mut from = 0;
+    while let Some(k) = next_class(work, w, n, from) {
+        labels[k] = moved(lo, hi, labels[k]);
+        from = k + 1;
     }
 }
 
-// The label hi gives way to lo, and the rows over the members of one of the two are marked.
-fn lower(sets: &[u64], labels: &mut [u16], work: &mut [u64], n: usize, lo: usize, hi: usize)
-    requires space { Space n labels.old work.old }
-    requires labelled { Labelled n labels.old work.old }
-    requires n_in_bounds { sets_size n ≤ length sets.now }
-    requires labels { Labels n labels.old lo hi }
-    requires lo_lt_hi { lo < hi }
-    ensures { Joined n sets.now lo hi labels.old work.old labels.new work.new }
-{
-    let z = lighter(sets, n, lo, hi);
-    mark_over(sets, labels, work, n, z);
-    relabel(labels, work, n, lo, hi);
-    insert(work, 0, words(n) * WORD + hi);
-}
-
-// The labels x and y become one.
-fn join(sets: &[u64], labels: &mut [u16], work: &mut [u64], n: usize, x: usize, y: usize)
-    requires { Meets n sets.now labels.old work.old x y }
-    ensures { Joined n sets.now x y labels.old work.old labels.new work.new }
-{
-    if x < y {
-        lower(sets, labels, work, n, x, y);
-        return;
+impl<'a> Sets<'a> {
+    // Whether class a is kept apart from a member of label y.
+    fn apart_from(&self, labels: &[u16], work: &[u64], a: usize, y: usize) -> bool
+        requires space { Space self.now.n labels.now work.now }
+        requires labelled { Labelled self.now.n labels.now work.now }
+        requires n_in_bounds { sets_size self.now.n ≤ length self.now.sets.now }
+        requires a_lt_n { a < self.now.n }
+        requires own { Own self.now.n labels.now y }
+        ensures { ApartFrom self.now labels.now a y result }
+    {
+        let base = start(self.n, self.n + self.n + a);
+        let mut from = 0;
+        while let Some(k) = next_member(labels, work, self.n, y, from) {
+            if member(self.sets, base, k) {
+                return true;
+            }
+            from = k + 1;
+        }
+        false
     }
-    lower(sets, labels, work, n, y, x);
-}
 
-// The labels x and y become one; or members of them are kept apart, and the answer is so.
-pub(crate) fn meet(
-    sets: &[u64],
-    labels: &mut [u16],
-    work: &mut [u64],
-    n: usize,
-    x: usize,
-    y: usize,
-) -> bool
-    requires { Meets n sets.now labels.old work.old x y }
-    ensures { Meeting n sets.now x y labels.old work.old labels.new work.new result }
-{
-    if clashing(sets, labels, work, n, x, y) {
-        return true;
+    // Whether a member of label x is kept apart from a member of label y.
+    fn clashing(&self, labels: &[u16], work: &[u64], x: usize, y: usize) -> bool
+        requires space { Space self.now.n labels.now work.now }
+        requires labelled { Labelled self.now.n labels.now work.now }
+        requires n_in_bounds { sets_size self.now.n ≤ length self.now.sets.now }
+        requires labels { Labels self.now.n labels.now x y }
+        ensures { Clashing self.now labels.now x y result }
+    {
+        let mut from = 0;
+        while let Some(k) = next_member(labels, work, self.n, x, from) {
+            if self.apart_from(labels, work, k, y) {
+                return true;
+            }
+            from = k + 1;
+        }
+        false
     }
-    join(sets, labels, work, n, x, y);
-    false
+
+    // The rows over the members of label z are marked.
+    fn mark_over(&self, labels: &[u16], work: &mut [u64], z: usize)
+        requires space { Space self.now.n labels.now work.old }
+        requires labelled { Labelled self.now.n labels.now work.old }
+        requires n_in_bounds { sets_size self.now.n ≤ length self.now.sets.now }
+        requires own { Own self.now.n labels.now z }
+        ensures { Marked self.now labels.now z work.old work.new }
+    {
+        let w = words(self.n);
+        let mut from = 0;
+        while let Some(k) = next_member(labels, work, self.n, z, from) {
+            unite(work, 0, self.sets, start(self.n, k), w);
+            from = k + 1;
+        }
+    }
+
+    // How many rows are over a class.
+    fn weight(&self, a: usize) -> u32
+        requires n_bound { words_for self.now.n ≤ most_words }
+        requires n_in_bounds { sets_size self.now.n ≤ length self.now.sets.now }
+        requires a_lt_n { a < self.now.n }
+    {
+        let w = words(self.n);
+        let base = start(self.n, a);
+        let mut sum: u32 = 0;
+        for i in 0..w {
+            sum += count(self.sets[base + i]);
+        }
+        sum
+    }
+
+    // Of two classes the one with fewer rows over it.
+    fn lighter(&self, a: usize, b: usize) -> usize
+        requires n_bound { words_for self.now.n ≤ most_words }
+        requires n_in_bounds { sets_size self.now.n ≤ length self.now.sets.now }
+        requires a_lt_n { (a < self.now.n) × (b < self.now.n) }
+        ensures { (result ≡ a) ⊎ (result ≡ b) }
+    {
+        if self.weight(a) <= self.weight(b) {
+            a
+        } else {
+            b
+        }
+    }
+
+    // The label hi gives way to lo, and the rows over the members of one of the two are marked.
+    fn lower(&self, labels: &mut [u16], work: &mut [u64], lo: usize, hi: usize)
+        requires space { Space self.now.n labels.old work.old }
+        requires labelled { Labelled self.now.n labels.old work.old }
+        requires n_in_bounds { sets_size self.now.n ≤ length self.now.sets.now }
+        requires labels { Labels self.now.n labels.old lo hi }
+        requires lo_lt_hi { lo < hi }
+        ensures { Joined self.now lo hi labels.old work.old labels.new work.new }
+    {
+        let z = self.lighter(lo, hi);
+        self.mark_over(labels, work, z);
+        relabel(labels, work, self.n, lo, hi);
+        insert(work, 0, words(self.n) * WORD + hi);
+    }
+
+    // The labels x and y become one.
+    fn join(&self, labels: &mut [u16], work: &mut [u64], x: usize, y: usize)
+        requires { Meets self.now labels.old work.old x y }
+        ensures { Joined self.now x y labels.old work.old labels.new work.new }
+    {
+        if x < y {
+            self.lower(labels, work, x, y);
+            return;
+        }
+        self.lower(labels, work, y, x);
+    }
+
+    // The labels x and y become one; or members of them are kept apart, and the answer is so.
+    pub(crate) fn meet(&self, labels: &mut [u16], work: &mut [u64], x: usize, y: usize) -> bool
+        requires { Meets self.now labels.old work.old x y }
+        ensures { Meeting self.now x y labels.old work.old labels.new work.new result }
+    {
+        if self.clashing(labels, work, x, y) {
+            return true;
+        }
+        self.join(labels, work, x, y);
+        false
+    }
 }

@@ -3,157 +3,135 @@ ghost use Rattle.std.specs.Prelude.{◌≡◌, ◌<◌, ◌≤◌, length};
 ghost use Rattle.meaning.specs.Equality.{rep_at};
 ghost use Rattle.runs.specs.Limits.{arg_places};
 ghost use Rattle.runs.specs.Runs.{row_count, arg_in, rows_of};
-ghost use Rattle.search_pairs.specs.Steps.{Laid, Seated, Space, Labelled, sets_size, Inside, label_by, same_args, agree_by, Differs, OverClass, OverLabel, Mate};
+ghost use Rattle.search_pairs.specs.Steps.{Laid, Seated, Space, Labelled, Own, sets_size, Inside, label_by, same_args, agree_by, Differs, OverClass, OverLabel, Mate};
 
-use super::labels::{next_member, start, words};
-use bits::next;
-use casts::usize_of_u16;
+use super::Closed;
+use super::labels::{next_class, next_member, start};
 use runs::{arg_in, count_in, row_count, symbol_in};
 
 // What a table holds at a place, and 0 past its end.
 pub(crate) fn at_place(table: &[u16], i: usize) -> usize
     ensures { result ≡ rep_at table.now i }
 {
-    if i < table.len() {
-        usize_of_u16(table[i])
-    } else {
-        0
+    match table.get(i) {
+        Some(x) => usize::from(*x),
+        None => 0,
     }
 }
 
-// The label of a row.
-pub(crate) fn label(table: &[u16], labels: &[u16], i: usize) -> usize
-    ensures { result ≡ label_by table.now labels.now i }
-{
-    at_place(labels, at_place(table, i))
-}
+impl<'a> Closed<'a> {
+    // The label of a row.
+    pub(crate) fn label(&self, labels: &[u16], i: usize) -> usize
+        ensures { result ≡ label_by self.now.table.now labels.now i }
+    {
+        at_place(labels, at_place(self.table, i))
+    }
 
-// The label of argument k of row i.
-pub(crate) fn arg_label(rows: &[u16], table: &[u16], labels: &[u16], i: usize, k: usize) -> usize
-    requires i_bound { i < row_count rows.now }
-    requires k_lt_arg_places { k < arg_places }
-    ensures { result ≡ label_by table.now labels.now (arg_in rows.now i k) }
-{
-    label(table, labels, arg_in(rows, i, k))
-}
+    // The label of argument k of row i.
+    pub(crate) fn arg_label(&self, labels: &[u16], i: usize, k: usize) -> usize
+        requires i_bound { i < row_count self.now.rows.now }
+        requires k_lt_arg_places { k < arg_places }
+        ensures { result ≡ label_by self.now.table.now labels.now (arg_in self.now.rows.now i k) }
+    {
+        self.label(labels, arg_in(self.rows, i, k))
+    }
 
-// Whether the first count arguments of rows i and j have the same labels.
-fn same_args(rows: &[u16], table: &[u16], labels: &[u16], i: usize, j: usize, count: usize) -> bool
-    requires seated { Seated rows.now i count }
-    requires seated_2 { Seated rows.now j count }
-    ensures { result ≡ same_args rows.now (label_by table.now labels.now) i j count }
-{
-    let mut k: usize = 0;
-    while k < count {
-        if arg_label(rows, table, labels, i, k) != arg_label(rows, table, labels, j, k) {
+    // Whether the first count arguments of rows i and j have the same labels.
+    fn same_args(&self, labels: &[u16], i: usize, j: usize, count: usize) -> bool
+        requires seated { Seated self.now.rows.now i count }
+        requires seated_2 { Seated self.now.rows.now j count }
+        ensures { result ≡ same_args self.now.rows.now (label_by self.now.table.now labels.now) i j count }
+    {
+        for k in 0..count {
+            if self.arg_label(labels, i, k) != self.arg_label(labels, j, k) {
+                return false;
+            }
+        }
+        true
+    }
+
+    // Whether rows i and j have one symbol, and arguments with the same labels.
+    fn agree(&self, labels: &[u16], i: usize, j: usize) -> bool
+        requires laid { Laid self.now.rows.now }
+        requires i_bound { i < row_count self.now.rows.now }
+        requires j_bound { j < row_count self.now.rows.now }
+        ensures { result ≡ agree_by (label_by self.now.table.now labels.now) (rows_of self.now.rows.now) i j }
+    {
+        if symbol_in(self.rows, i) != symbol_in(self.rows, j) {
             return false;
         }
-        k += 1;
-    }
-    true
-}
-
-// Whether rows i and j have one symbol, and arguments with the same labels.
-fn agree(rows: &[u16], table: &[u16], labels: &[u16], i: usize, j: usize) -> bool
-    requires laid { Laid rows.now }
-    requires i_bound { i < row_count rows.now }
-    requires j_bound { j < row_count rows.now }
-    ensures { result ≡ agree_by (label_by table.now labels.now) (rows_of rows.now) i j }
-{
-    if symbol_in(rows, i) != symbol_in(rows, j) {
-        return false;
-    }
-    let count = count_in(rows, i);
-    if count != count_in(rows, j) {
-        return false;
-    }
-    same_args(rows, table, labels, i, j, count)
-}
-
-// Whether row s agrees with row r and has another label.
-fn differs(rows: &[u16], table: &[u16], labels: &[u16], r: usize, s: usize) -> bool
-    requires laid { Laid rows.now }
-    requires r_bound { r < row_count rows.now }
-    requires s_bound { s < row_count rows.now }
-    ensures { Differs (rows_of rows.now) table.now labels.now r s result }
-{
-    if label(table, labels, r) == label(table, labels, s) {
-        return false;
-    }
-    agree(rows, table, labels, r, s)
-}
-
-// The first row over class a that agrees with row r and has another label; or a number that is no row.
-fn seek_over(rows: &[u16], table: &[u16], sets: &[u64], labels: &[u16], r: usize, a: usize) -> usize
-    requires laid { Laid rows.now }
-    requires rows_in_bounds { sets_size (row_count rows.now) ≤ length sets.now }
-    requires r_bound { r < row_count rows.now }
-    requires a_bound { a < row_count rows.now }
-    ensures { OverClass rows.now table.now sets.now labels.now a r result }
-{
-    let n = row_count(rows);
-    let w = words(n);
-    let base = start(n, a);
-    let mut s = next(sets, base, w, 0);
-    while s < n {
-        if differs(rows, table, labels, r, s) {
-            return s;
+        let count = count_in(self.rows, i);
+        if count != count_in(self.rows, j) {
+            return false;
         }
-        s = next(sets, base, w, s + 1);
+        self.same_args(labels, i, j, count)
     }
-    s
-}
 
-// The same over the members of label z.
-fn seek(
-    rows: &[u16],
-    table: &[u16],
-    sets: &[u64],
-    labels: &[u16],
-    work: &[u64],
-    r: usize,
-    z: usize,
-) -> usize
-    requires laid { Laid rows.now }
-    requires rows_in_bounds { sets_size (row_count rows.now) ≤ length sets.now }
-    requires space { Space (row_count rows.now) labels.now work.now }
-    requires labelled { Labelled (row_count rows.now) labels.now work.now }
-    requires r_bound { r < row_count rows.now }
-    requires z_value { rep_at labels.now z ≡ z }
-    ensures { OverLabel rows.now table.now sets.now labels.now z r result }
-{
-    let n = row_count(rows);
-    let mut k = z;
-    while k < n {
-        let s = seek_over(rows, table, sets, labels, r, k);
-        if s < n {
-            return s;
+    // Whether row s agrees with row r and has another label.
+    fn differs(&self, labels: &[u16], r: usize, s: usize) -> bool
+        requires laid { Laid self.now.rows.now }
+        requires r_bound { r < row_count self.now.rows.now }
+        requires s_bound { s < row_count self.now.rows.now }
+        ensures { Differs (rows_of self.now.rows.now) self.now.table.now labels.now r s result }
+    {
+        self.label(labels, r) != self.label(labels, s) && self.agree(labels, r, s)
+    }
+
+    // The first row over class a that agrees with row r and has another label.
+    fn seek_over(&self, labels: &[u16], r: usize, a: usize) -> Option<usize>
+        requires laid { Laid self.now.rows.now }
+        requires rows_in_bounds { sets_size (row_count self.now.rows.now) ≤ length self.now.sets.now }
+        requires r_bound { r < row_count self.now.rows.now }
+        requires a_bound { a < row_count self.now.rows.now }
+        ensures { OverClass self.now.rows.now self.now.table.now self.now.sets.now labels.now a r result }
+    {
+        let n = row_count(self.rows);
+        let base = start(n, a);
+        let mut from = 0;
+        while let Some(s) = next_class(self.sets, base, n, from) {
+            if self.differs(labels, r, s) {
+                return Some(s);
+            }
+            from = s + 1;
         }
-        k = next_member(labels, work, n, z, k + 1);
+        None
     }
-    n
-}
 
-// A row that agrees with row r and has another label; or a number that is no row. It has a label's member where row r has one, so one place is enough.
-pub(crate) fn mate(
-    rows: &[u16],
-    table: &[u16],
-    sets: &[u64],
-    labels: &[u16],
-    work: &[u64],
-    r: usize,
-) -> usize
-    requires laid { Laid rows.now }
-    requires rows_in_bounds { sets_size (row_count rows.now) ≤ length sets.now }
-    requires space { Space (row_count rows.now) labels.now work.now }
-    requires labelled { Labelled (row_count rows.now) labels.now work.now }
-    requires inside { Inside (row_count rows.now) table.now }
-    requires r_bound { r < row_count rows.now }
-    ensures { Mate rows.now table.now sets.now labels.now r result }
-{
-    if count_in(rows, r) == 0 {
-        return row_count(rows);
+    // The same over the members of label z.
+    fn seek(&self, labels: &[u16], work: &[u64], r: usize, z: usize) -> Option<usize>
+        requires laid { Laid self.now.rows.now }
+        requires rows_in_bounds { sets_size (row_count self.now.rows.now) ≤ length self.now.sets.now }
+        requires space { Space (row_count self.now.rows.now) labels.now work.now }
+        requires labelled { Labelled (row_count self.now.rows.now) labels.now work.now }
+        requires r_bound { r < row_count self.now.rows.now }
+        requires own { Own (row_count self.now.rows.now) labels.now z }
+        ensures { OverLabel self.now.rows.now self.now.table.now self.now.sets.now labels.now z r result }
+    {
+        let n = row_count(self.rows);
+        let mut from = 0;
+        while let Some(k) = next_member(labels, work, n, z, from) {
+            if let Some(s) = self.seek_over(labels, r, k) {
+                return Some(s);
+            }
+            from = k + 1;
+        }
+        None
     }
-    let z = arg_label(rows, table, labels, r, 0);
-    seek(rows, table, sets, labels, work, r, z)
+
+    // A row that agrees with row r and has another label. It has a label's member where row r has one, so one place is enough.
+    pub(crate) fn mate(&self, labels: &[u16], work: &[u64], r: usize) -> Option<usize>
+        requires laid { Laid self.now.rows.now }
+        requires rows_in_bounds { sets_size (row_count self.now.rows.now) ≤ length self.now.sets.now }
+        requires space { Space (row_count self.now.rows.now) labels.now work.now }
+        requires labelled { Labelled (row_count self.now.rows.now) labels.now work.now }
+        requires inside { Inside (row_count self.now.rows.now) self.now.table.now }
+        requires r_bound { r < row_count self.now.rows.now }
+        ensures { Mate self.now.rows.now self.now.table.now self.now.sets.now labels.now r result }
+    {
+        if count_in(self.rows, r) == 0 {
+            return None;
+        }
+        let z = self.arg_label(labels, r, 0);
+        self.seek(labels, work, r, z)
+    }
 }

@@ -2,29 +2,25 @@
 ghost use Rattle.std.specs.Prelude.{◌≡◌, ◌<◌, ◌≤◌, length};
 ghost use Rattle.runs.specs.Runs.{row_count};
 ghost use Rattle.search_pairs.specs.Steps.{Laid, sets_size, Inside, Blank};
-ghost use Rattle.search_pairs.specs.Memo.{known_at, differs_at, Memo, Sought, Paired, Places, Noted, Asking, Recalled};
+ghost use Rattle.search_pairs.specs.Memo.{Knows, Sought, Paired, Places, Noted};
+ghost use Rattle.search_pairs.specs.Lent.{Memo, Asking, Recalled};
 
-use super::ask_anew;
+use super::Closed;
 use super::labels::start;
 use super::mates::at_place;
 use super::prepare::put;
 use bits::member;
 use runs::row_count;
 
-// Whether it is known if the classes x and y differ.
-fn is_known(known: &[u64], n: usize, x: usize, y: usize) -> bool
+// What is known of the classes x and y: whether they differ.
+fn told(known: &[u64], n: usize, x: usize, y: usize) -> Option<bool>
     requires { Places n (length known.now) x y }
-    ensures { result ≡ known_at n known.now x y }
+    ensures { Knows n known.now x y result }
 {
-    member(known, start(n, x), y)
-}
-
-// What is known of them.
-fn told(known: &[u64], n: usize, x: usize, y: usize) -> bool
-    requires { Places n (length known.now) x y }
-    ensures { result ≡ differs_at n known.now x y }
-{
-    member(known, start(n, n + x), y)
+    if !member(known, start(n, x), y) {
+        return None;
+    }
+    Some(member(known, start(n, n + x), y))
 }
 
 // The classes x and y are put into each other's set, of n sets from a number on.
@@ -42,87 +38,76 @@ fn note(known: &mut [u64], n: usize, x: usize, y: usize, r: bool)
     ensures { Noted n x y r known.old known.new }
 {
     put_pair(known, n, 0, x, y);
-    if !r {
-        return;
+    if r {
+        put_pair(known, n, n, x, y);
     }
-    put_pair(known, n, n, x, y);
 }
 
-// Two classes asked anew, and the answer noted.
-fn settle(
-    rows: &[u16],
-    table: &[u16],
-    sets: &[u64],
-    labels: &mut [u16],
-    work: &mut [u64],
-    known: &mut [u64],
-    n: usize,
-    x: usize,
-    y: usize,
-) -> bool
-    requires { Asking n rows.now table.now sets.now labels.old work.old known.old x y }
-    ensures { Recalled rows.now table.now sets.now x y labels.new work.new known.new result }
-{
-    let r = ask_anew(rows, table, sets, labels, work, x, y);
-    note(known, n, x, y, r);
-    r
-}
+impl<'a> Closed<'a> {
+    // Two classes asked anew, and the answer noted.
+    fn settle(
+        &self,
+        labels: &mut [u16],
+        work: &mut [u64],
+        known: &mut [u64],
+        n: usize,
+        x: usize,
+        y: usize,
+    ) -> bool
+        requires { Asking self.now n labels.old work.old known.old x y }
+        ensures { Recalled self.now x y labels.new work.new known.new result }
+    {
+        let r = self.ask_anew(labels, work, x, y);
+        note(known, n, x, y, r);
+        r
+    }
 
-// Two classes, by the memo where it knows them.
-fn recall(
-    rows: &[u16],
-    table: &[u16],
-    sets: &[u64],
-    labels: &mut [u16],
-    work: &mut [u64],
-    known: &mut [u64],
-    n: usize,
-    x: usize,
-    y: usize,
-) -> bool
-    requires { Asking n rows.now table.now sets.now labels.old work.old known.old x y }
-    ensures { Recalled rows.now table.now sets.now x y labels.new work.new known.new result }
-{
-    if is_known(known, n, x, y) {
-        return told(known, n, x, y);
+    // Two classes, by the memo where it knows them.
+    fn recall(
+        &self,
+        labels: &mut [u16],
+        work: &mut [u64],
+        known: &mut [u64],
+        n: usize,
+        x: usize,
+        y: usize,
+    ) -> bool
+        requires { Asking self.now n labels.old work.old known.old x y }
+        ensures { Recalled self.now x y labels.new work.new known.new result }
+    {
+        match told(known, n, x, y) {
+            Some(r) => r,
+            None => self.settle(labels, work, known, n, x, y),
+        }
     }
-    settle(rows, table, sets, labels, work, known, n, x, y)
-}
 
-// Whether rows a and b differ. A number that is no row differs from nothing.
-pub fn ask(
-    rows: &[u16],
-    table: &[u16],
-    sets: &[u64],
-    labels: &mut [u16],
-    work: &mut [u64],
-    known: &mut [u64],
-    a: usize,
-    b: usize,
-) -> bool
-    requires laid { Laid rows.now }
-    requires inside { Inside (row_count rows.now) table.now }
-    requires rows_in_bounds { sets_size (row_count rows.now) ≤ length sets.now }
-    requires blank { Blank (row_count rows.now) labels.old work.old }
-    requires memo { Memo rows.now table.now sets.now known.old }
-    ensures { Recalled rows.now table.now sets.now a b labels.new work.new known.new result }
-{
-    let n = row_count(rows);
-    if n <= a {
-        return false;
+    // Whether rows a and b differ. A number that is no row differs from nothing.
+    pub fn ask(
+        &self,
+        labels: &mut [u16],
+        work: &mut [u64],
+        known: &mut [u64],
+        a: usize,
+        b: usize,
+    ) -> bool
+        requires laid { Laid self.now.rows.now }
+        requires inside { Inside (row_count self.now.rows.now) self.now.table.now }
+        requires rows_in_bounds { sets_size (row_count self.now.rows.now) ≤ length self.now.sets.now }
+        requires blank { Blank (row_count self.now.rows.now) labels.old work.old }
+        requires memo { Memo self.now known.old }
+        ensures { Recalled self.now a b labels.new work.new known.new result }
+    {
+        let n = row_count(self.rows);
+        if n <= a || n <= b {
+            return false;
+        }
+        self.recall(
+            labels,
+            work,
+            known,
+            n,
+            at_place(self.table, a),
+            at_place(self.table, b),
+        )
     }
-    if n <= b {
-        return false;
-    }
-    recall(
-        rows,
-        table,
-        sets,
-        labels,
-        work,
-        known,
-        n,
-        at_place(table, a),
-        at_place(table, b),
-    )
 }

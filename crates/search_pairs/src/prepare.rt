@@ -1,11 +1,12 @@
 // The sets of a context, made from its rows, its statements and the table of its classes: which rows are over a class, which classes stand beside
 // each other, which are kept apart, and which are live.
-ghost use Rattle.std.specs.Prelude.{◌||◌, false, ◌≡◌, ◌+◌, ◌*◌, ◌<◌, length};
+ghost use Rattle.std.specs.Prelude.{false, ◌≡◌, ◌+◌, ◌*◌, ◌<◌, length};
 ghost use Rattle.runs.specs.Fit.{Every, NamedAt};
 ghost use Rattle.runs.specs.Runs.{row_count, said_count, count_in};
 ghost use Rattle.search_pairs.specs.Ready.{Prepared};
 ghost use Rattle.search_pairs.specs.Steps.{Laid, Inside, sets_size};
-ghost use Rattle.search_pairs.specs.Prepare.{Seat, Put, Base, RowIn, TwoRows, Matched, ArgIn, Pair, ArgClass, OverPut, BesidePut, OverRow, BesideArgs, Alike, BesideRows, BesideRow, RowPlaced, Placed, Telling, Told, Untold, ApartPut, LivePut, LiveArgs, LiveRow, LivePass, Spread, Connected};
+ghost use Rattle.search_pairs.specs.Prepare.{Seat, Put, Pair, OverPut, BesidePut, Alike, Telling, Told, Untold, ApartPut, LivePut};
+ghost use Rattle.search_pairs.specs.Lent.{Base, RowIn, TwoRows, Matched, ArgIn, ArgClass, OverRow, BesideArgs, BesideRows, BesideRow, RowPlaced, Placed, LiveArgs, LiveRow, LivePass, Spread, Connected};
 
 use super::is_live;
 use super::labels::start;
@@ -16,20 +17,20 @@ use runs::{arg_in, count_in, kind_in, left_in, right_in, row_count, said_count, 
 // The statements that are equations.
 const EQUATION: u16 = 2;
 
+// The n rows of a context, and the table of their classes.
+#[derive(Clone, Copy)]
+struct Ledger<'a> {
+    rows: &'a [u16],
+    table: &'a [u16],
+    n: usize,
+}
+
 // k is put into set s of n rows.
 pub(crate) fn put(sets: &mut [u64], n: usize, s: usize, k: usize)
     requires { Seat n (length sets.old) s k }
     ensures { Put n s k sets.old sets.new }
 {
     insert(sets, 0, start(n, s) * 64 + k);
-}
-
-// The class of argument k of row r.
-fn arg_class(rows: &[u16], table: &[u16], n: usize, r: usize, k: usize) -> usize
-    requires { ArgIn n rows.now table.now r k }
-    ensures { ArgClass n rows.now table.now r k result }
-{
-    at_place(table, arg_in(rows, r, k))
 }
 
 // Row r is over class x.
@@ -72,88 +73,13 @@ fn put_live(sets: &mut [u64], n: usize, x: usize) -> bool
     true
 }
 
-// Row r is over the classes of its arguments.
-fn over_row(rows: &[u16], table: &[u16], sets: &mut [u64], n: usize, r: usize)
-    requires { RowIn n rows.now table.now (length sets.old) r }
-    ensures { OverRow n rows.now table.now r (count_in rows.now r) sets.old sets.new }
-{
-    let count = count_in(rows, r);
-    let mut k: usize = 0;
-    while k < count {
-        let x = arg_class(rows, table, n, r, k);
-        put_over(sets, n, x, r);
-        k += 1;
-    }
-}
-
-// The arguments of rows r and s, place by place, stand beside each other.
-fn beside_args(rows: &[u16], table: &[u16], sets: &mut [u64], n: usize, r: usize, s: usize)
-    requires { Matched n rows.now table.now (length sets.old) r s }
-    ensures { BesideArgs n rows.now table.now r s (count_in rows.now r) sets.old sets.new }
-{
-    let count = count_in(rows, r);
-    let mut k: usize = 0;
-    while k < count {
-        let x = arg_class(rows, table, n, r, k);
-        let y = arg_class(rows, table, n, s, k);
-        put_beside(sets, n, x, y);
-        k += 1;
-    }
-}
-
 // Whether rows r and s have one symbol and one count.
+// Beside the one of classes: the crates above differ in what they say of it, and it is one line.
 fn alike(rows: &[u16], r: usize, s: usize) -> bool
     requires { (r < row_count rows.now) × (s < row_count rows.now) }
     ensures { Alike rows.now r s result }
 {
-    if symbol_in(rows, r) != symbol_in(rows, s) {
-        return false;
-    }
-    count_in(rows, r) == count_in(rows, s)
-}
-
-// The same where the rows are alike.
-fn beside_rows(rows: &[u16], table: &[u16], sets: &mut [u64], n: usize, r: usize, s: usize)
-    requires { TwoRows n rows.now table.now (length sets.old) r s }
-    ensures { BesideRows n rows.now table.now r s sets.old sets.new }
-{
-    if !alike(rows, r, s) {
-        return;
-    }
-    beside_args(rows, table, sets, n, r, s);
-}
-
-// Row r with each row up to itself.
-fn beside_row(rows: &[u16], table: &[u16], sets: &mut [u64], n: usize, r: usize)
-    requires { RowIn n rows.now table.now (length sets.old) r }
-    ensures { BesideRow n rows.now table.now r (r + 1) sets.old sets.new }
-{
-    let mut s: usize = 0;
-    while s <= r {
-        beside_rows(rows, table, sets, n, r, s);
-        s += 1;
-    }
-}
-
-// Row r, over the classes of its arguments and beside each row up to itself.
-fn place_row(rows: &[u16], table: &[u16], sets: &mut [u64], n: usize, r: usize)
-    requires { RowIn n rows.now table.now (length sets.old) r }
-    ensures { RowPlaced n rows.now table.now r sets.old sets.new }
-{
-    over_row(rows, table, sets, n, r);
-    beside_row(rows, table, sets, n, r);
-}
-
-// Each row.
-fn place_rows(rows: &[u16], table: &[u16], sets: &mut [u64], n: usize)
-    requires { Base n rows.now table.now (length sets.old) }
-    ensures { Placed n rows.now table.now n sets.old sets.new }
-{
-    let mut r: usize = 0;
-    while r < n {
-        place_row(rows, table, sets, n, r);
-        r += 1;
-    }
+    symbol_in(rows, r) == symbol_in(rows, s) && count_in(rows, r) == count_in(rows, s)
 }
 
 // Statement k, where it is a difference, keeps the classes of its sides apart.
@@ -175,85 +101,9 @@ fn tell_all(said: &[u16], table: &[u16], sets: &mut [u64], n: usize)
     ensures { Telling n said.now table.now (said_count said.now) sets.new }
 {
     let m = said_count(said);
-    let mut k: usize = 0;
-    while k < m {
+    for k in 0..m {
         tell(said, table, sets, n, k);
-        k += 1;
     }
-}
-
-// Whether one of two is so.
-fn either(a: bool, b: bool) -> bool
-    ensures { result ≡ (a || b) }
-{
-    if a {
-        return true;
-    }
-    b
-}
-
-// The classes of row r's arguments are live. The answer is whether one was not.
-fn live_args(rows: &[u16], table: &[u16], sets: &mut [u64], n: usize, r: usize) -> bool
-    requires { RowIn n rows.now table.now (length sets.old) r }
-    ensures { LiveArgs n rows.now table.now r (count_in rows.now r) sets.old sets.new result }
-{
-    let count = count_in(rows, r);
-    let mut added = false;
-    let mut k: usize = 0;
-    while k < count {
-        let x = arg_class(rows, table, n, r, k);
-        let b = put_live(sets, n, x);
-        added = either(added, b);
-        k += 1;
-    }
-    added
-}
-
-// The same where the row's class is live.
-fn live_row(rows: &[u16], table: &[u16], sets: &mut [u64], n: usize, r: usize) -> bool
-    requires { RowIn n rows.now table.now (length sets.old) r }
-    ensures { LiveRow n rows.now table.now r sets.old sets.new result }
-{
-    if !is_live(sets, n, at_place(table, r)) {
-        return false;
-    }
-    live_args(rows, table, sets, n, r)
-}
-
-// The same for each row, from the last to the first.
-fn live_pass(rows: &[u16], table: &[u16], sets: &mut [u64], n: usize) -> bool
-    requires { Base n rows.now table.now (length sets.old) }
-    ensures { LivePass n rows.now table.now 0 sets.old sets.new result }
-{
-    let mut added = false;
-    let mut r = n;
-    while 0 < r {
-        r -= 1;
-        let b = live_row(rows, table, sets, n, r);
-        added = either(added, b);
-    }
-    added
-}
-
-// Passes until one adds nothing.
-fn spread(rows: &[u16], table: &[u16], sets: &mut [u64], n: usize)
-    requires { Base n rows.now table.now (length sets.old) }
-    ensures { Spread n rows.now table.now sets.old sets.new }
-{
-    loop {
-        if !live_pass(rows, table, sets, n) {
-            return;
-        }
-    }
-}
-
-// Each row is placed; then what is live.
-fn connect(rows: &[u16], table: &[u16], sets: &mut [u64], n: usize)
-    requires { Base n rows.now table.now (length sets.old) }
-    ensures { Connected n rows.now table.now sets.old sets.new }
-{
-    place_rows(rows, table, sets, n);
-    spread(rows, table, sets, n);
 }
 
 // The sets of a context by the table of its classes.
@@ -267,5 +117,133 @@ pub fn prepare(rows: &[u16], said: &[u16], table: &[u16], sets: &mut [u64])
     let n = row_count(rows);
     empty(sets);
     tell_all(said, table, sets, n);
-    connect(rows, table, sets, n);
+    Ledger { rows, table, n }.connect(sets);
+}
+
+impl<'a> Ledger<'a> {
+    // The class of argument k of row r.
+    fn arg_class(&self, r: usize, k: usize) -> usize
+        requires { ArgIn self.now r k }
+        ensures { ArgClass self.now r k result }
+    {
+        at_place(self.table, arg_in(self.rows, r, k))
+    }
+
+    // Row r is over the classes of its arguments.
+    fn over_row(&self, sets: &mut [u64], r: usize)
+        requires { RowIn self.now (length sets.old) r }
+        ensures { OverRow self.now r (count_in self.now.rows.now r) sets.old sets.new }
+    {
+        let count = count_in(self.rows, r);
+        for k in 0..count {
+            let x = self.arg_class(r, k);
+            put_over(sets, self.n, x, r);
+        }
+    }
+
+    // The arguments of rows r and s, place by place, stand beside each other.
+    fn beside_args(&self, sets: &mut [u64], r: usize, s: usize)
+        requires { Matched self.now (length sets.old) r s }
+        ensures { BesideArgs self.now r s (count_in self.now.rows.now r) sets.old sets.new }
+    {
+        let count = count_in(self.rows, r);
+        for k in 0..count {
+            let x = self.arg_class(r, k);
+            let y = self.arg_class(s, k);
+            put_beside(sets, self.n, x, y);
+        }
+    }
+
+    // The same where the rows are alike.
+    fn beside_rows(&self, sets: &mut [u64], r: usize, s: usize)
+        requires { TwoRows self.now (length sets.old) r s }
+        ensures { BesideRows self.now r s sets.old sets.new }
+    {
+        if alike(self.rows, r, s) {
+            self.beside_args(sets, r, s);
+        }
+    }
+
+    // Row r with each row up to itself.
+    fn beside_row(&self, sets: &mut [u64], r: usize)
+        requires { RowIn self.now (length sets.old) r }
+        ensures { BesideRow self.now r (r + 1) sets.old sets.new }
+    {
+        for s in 0..r + 1 {
+            self.beside_rows(sets, r, s);
+        }
+    }
+
+    // Row r, over the classes of its arguments and beside each row up to itself.
+    fn place_row(&self, sets: &mut [u64], r: usize)
+        requires { RowIn self.now (length sets.old) r }
+        ensures { RowPlaced self.now r sets.old sets.new }
+    {
+        self.over_row(sets, r);
+        self.beside_row(sets, r);
+    }
+
+    // Each row.
+    fn place_rows(&self, sets: &mut [u64])
+        requires { Base self.now (length sets.old) }
+        ensures { Placed self.now self.now.n sets.old sets.new }
+    {
+        for r in 0..self.n {
+            self.place_row(sets, r);
+        }
+    }
+
+    // The classes of row r's arguments are live. The answer is whether one was not.
+    fn live_args(&self, sets: &mut [u64], r: usize) -> bool
+        requires { RowIn self.now (length sets.old) r }
+        ensures { LiveArgs self.now r (count_in self.now.rows.now r) sets.old sets.new result }
+    {
+        let count = count_in(self.rows, r);
+        let mut added = false;
+        for k in 0..count {
+            let x = self.arg_class(r, k);
+            added |= put_live(sets, self.n, x);
+        }
+        added
+    }
+
+    // The same where the row's class is live.
+    fn live_row(&self, sets: &mut [u64], r: usize) -> bool
+        requires { RowIn self.now (length sets.old) r }
+        ensures { LiveRow self.now r sets.old sets.new result }
+    {
+        is_live(sets, self.n, at_place(self.table, r)) && self.live_args(sets, r)
+    }
+
+    // The same for each row, from the last to the first.
+    // No `for`: from the last row down, the invariant speaks of the rows that are left.
+    fn live_pass(&self, sets: &mut [u64]) -> bool
+        requires { Base self.now (length sets.old) }
+        ensures { LivePass self.now 0 sets.old sets.new result }
+    {
+        let mut added = false;
+        let mut r = self.n;
+        while 0 < r {
+            r -= 1;
+            added |= self.live_row(sets, r);
+        }
+        added
+    }
+
+    // Passes until one adds nothing.
+    fn spread(&self, sets: &mut [u64])
+        requires { Base self.now (length sets.old) }
+        ensures { Spread self.now sets.old sets.new }
+    {
+        while self.live_pass(sets) {}
+    }
+
+    // Each row is placed; then what is live.
+    fn connect(&self, sets: &mut [u64])
+        requires { Base self.now (length sets.old) }
+        ensures { Connected self.now sets.old sets.new }
+    {
+        self.place_rows(sets);
+        self.spread(sets);
+    }
 }

@@ -5,17 +5,22 @@
 --     United, united-start .. -done        their sets together
 --     level-variable .. reached-symbol     the numbers of one row
 -- Assumes nothing.
+use mathlib.Core.Bool.{Bool, true, false}
 use mathlib.Core.List.{List, [], ◌∷◌, ◌++◌}
 use mathlib.Core.Path.{◌≡◌, refl, sym, ap, ◌∙◌}
 use Prim.Native.Nat.{ℕ, suc, ◌+◌, ◌*◌, ◌%◌, ◌^◌, ◌≤◌, ◌<◌, max}
 use native.Mathlib.Omega.{arith}
 use native.Mathlib.Numerals.{add-one}
 use borrow.Author.Rules.{rules}
+use borrow.Author.Tests.{eqb-true, eqb-false}
 use lib.Bits.{bit_or}
-use lib.Dec.{lit<}
+use lib.Dec.{eqb, lit<}
 use lib.ListN.{length, get_or, take}
 use lib.Pow.{shl_exact}
 use lib.Seq.{take-suc, take_all}
+use Rattle.std.specs.Ordering.{ord_max}
+use Rattle.std.proofs.Common.{nat_cmp}
+use Rattle.std.proofs.lemmas.Bool.Decides.{nat_tests}
 use Rattle.meaning.specs.Values.{highest, level_of}
 use Rattle.runs.specs.Limits.{most_variables, pattern_size, arg_places}
 use Rattle.runs.specs.Runs.{pattern_kind_in, head_in, pattern_count_in, pattern_arg_in, pattern_args_in, pattern_in}
@@ -23,12 +28,12 @@ use Rattle.runs.proofs.Saying.{arg-at, args-length, pattern-variable, pattern-sy
 use Rattle.search_plan.specs.Steps.{RowFit, ArgsFit, reached_of}
 use Rattle.search_plan.specs.Sets.{union, set_of}
 
-module _ (patterns : List ℕ) (numbers i : ℕ) (f : RowFit patterns numbers i) (k : ℕ) (e : k ≡ pattern_kind_in patterns i) where
-  pub row-head : (h : ℕ) → k ≡ 4 → h ≡ head_in patterns i → h < most_variables
-  row-head h is q = omega (arith, f.pattern.variable (sym e ∙ is))
+module _ (patterns : List ℕ) (numbers i : ℕ) (f : RowFit patterns numbers i) (r : Bool) (e : r ≡ eqb (pattern_kind_in patterns i) 4) where
+  pub row-head : (h : ℕ) → r ≡ true → h ≡ head_in patterns i → h < most_variables
+  row-head h is q = omega (arith, f.pattern.variable (eqb-true (pattern_kind_in patterns i) 4 (sym e ∙ is)))
 
-  pub row-args : (k ≡ 4 → ⊥) → ArgsFit patterns numbers i
-  row-args n = record { inside = f.inside; known = f.known; placed = f.pattern.symbol (λ q. n (e ∙ q)) }
+  pub row-args : r ≡ false → ArgsFit patterns numbers i
+  row-args n = record { inside = f.inside; known = f.known; placed = f.pattern.symbol (eqb-false (pattern_kind_in patterns i) 4 (sym e ∙ n)) }
 
 -- ---- arguments
 
@@ -50,6 +55,10 @@ module _ (patterns : List ℕ) (numbers i : ℕ) (f : ArgsFit patterns numbers i
     arg-known a q = omega (arith, f.placed.earlier.each k (omega arith), f.known)
 
 -- ---- the highest
+
+-- the greater of two by the library is the greater of two numbers
+pub max-of : (x y r : ℕ) → r ≡ ord_max nat_cmp x y → r ≡ max x y
+max-of x y r e = grind (arith, nat_tests)
 
 pub record Topped (patterns levels : List ℕ) (i n most k : ℕ) : Type 0 where
   pub count : n ≡ pattern_count_in patterns i
@@ -115,34 +124,34 @@ module _ (patterns sets : List ℕ) (i n : ℕ) where
 
 -- ---- the numbers of one row
 
-module _ (patterns : List ℕ) (i k : ℕ) (e : k ≡ pattern_kind_in patterns i) where
-  module _ (is : k ≡ 4) (h : ℕ) (q : h ≡ head_in patterns i) where
+module _ (patterns : List ℕ) (i : ℕ) (b : Bool) (e : b ≡ eqb (pattern_kind_in patterns i) 4) where
+  module _ (is : b ≡ true) (h : ℕ) (q : h ≡ head_in patterns i) where
     pub level-variable : (levels : List ℕ) (r : ℕ) → r ≡ h + 1 → r ≡ level_of levels (pattern_in patterns i)
     unfolding level_of
-    level-variable levels r p = rw (pattern-variable patterns i (sym e ∙ is)) (p ∙ add-one h ∙ ap suc q)
+    level-variable levels r p = rw (pattern-variable patterns i (eqb-true (pattern_kind_in patterns i) 4 (sym e ∙ is))) (p ∙ add-one h ∙ ap suc q)
 
     pub set-variable : (sets : List ℕ) (r : ℕ) → r ≡ 2 ^ h → r ≡ set_of sets (pattern_in patterns i)
     unfolding set_of
-    set-variable sets r p = rw (pattern-variable patterns i (sym e ∙ is)) (p ∙ ap (λ (v : ℕ). 2 ^ v) q)
+    set-variable sets r p = rw (pattern-variable patterns i (eqb-true (pattern_kind_in patterns i) 4 (sym e ∙ is))) (p ∙ ap (λ (v : ℕ). 2 ^ v) q)
 
     pub reached-variable : (r : ℕ) → r ≡ h + 1 → r ≡ reached_of (pattern_in patterns i)
     unfolding reached_of
-    reached-variable r p = rw (pattern-variable patterns i (sym e ∙ is)) (p ∙ ap (λ (v : ℕ). v + 1) q)
+    reached-variable r p = rw (pattern-variable patterns i (eqb-true (pattern_kind_in patterns i) 4 (sym e ∙ is))) (p ∙ ap (λ (v : ℕ). v + 1) q)
 
-  module _ (other : k ≡ 4 → ⊥) where
+  module _ (other : b ≡ false) where
     pub level-symbol : (levels : List ℕ) (r : ℕ) → r ≡ highest levels (pattern_args_in patterns i) → r ≡ level_of levels (pattern_in patterns i)
     unfolding level_of
-    level-symbol levels r p = rw (pattern-symbol patterns i (λ q. other (e ∙ q))) p
+    level-symbol levels r p = rw (pattern-symbol patterns i (eqb-false (pattern_kind_in patterns i) 4 (sym e ∙ other))) p
 
     pub set-symbol : (sets : List ℕ) (r : ℕ) → r ≡ union sets 0 (pattern_args_in patterns i) → r ≡ set_of sets (pattern_in patterns i)
     unfolding set_of
-    set-symbol sets r p = rw (pattern-symbol patterns i (λ q. other (e ∙ q))) p
+    set-symbol sets r p = rw (pattern-symbol patterns i (eqb-false (pattern_kind_in patterns i) 4 (sym e ∙ other))) p
 
     pub reached-symbol : 0 ≡ reached_of (pattern_in patterns i)
     unfolding reached_of
-    reached-symbol = rw (pattern-symbol patterns i (λ q. other (e ∙ q)))
+    reached-symbol = rw (pattern-symbol patterns i (eqb-false (pattern_kind_in patterns i) 4 (sym e ∙ other)))
 
 pub only-is : (h : ℕ) → h < most_variables → (1 * 2 ^ h) % 2 ^ 8 ≡ 2 ^ h
 only-is h l = let e : 1 * 2 ^ h ≡ 2 ^ h = omega arith in shl_exact 1 h 8 (lit< tt) (omega arith) ∙ e
 
-pub ruleset mine = (rules, row-head, row-args, arg-place, arg-known, topped-start, topped-next, topped-done, united-start, united-next, united-done, level-variable, level-symbol, set-variable, set-symbol, reached-variable, reached-symbol, only-is)
+pub ruleset mine = (rules, row-head, row-args, arg-place, arg-known, topped-start, topped-next, topped-done, max-of, united-start, united-next, united-done, level-variable, level-symbol, set-variable, set-symbol, reached-variable, reached-symbol, only-is)

@@ -27,6 +27,7 @@ use Rattle.runs.specs.Fit.{Every, PatternAt}
 use Rattle.runs.proofs.Saying.{pattern-variable, pattern-symbol}
 use Rattle.runs.proofs.Formed.{placed_below}
 use Rattle.search_plan.specs.Steps.{RowFit, reached_of}
+use Rattle.search_plan.proofs.Args.{max-of}
 use Rattle.search_plan.specs.Sets.{union, set_of, sets_from, sets}
 
 -- ---- whatever one row's number is
@@ -199,4 +200,4 @@ module _ (patterns : List ℕ) (n : ℕ) where
     unfolding patterns_of
     variables-done h = let e : i ≡ pattern_count patterns = omega (arith, t.count, t.few) in t.so ∙ ap (λ (k : ℕ). variables (each (pattern_in patterns) k)) e
 
-pub ruleset mine = (rules, row-fit, grown-row, levels-start, levels-next, levels-done, sets-start, sets-next, sets-done, variables-start, variables-next, variables-done)
+pub ruleset mine = (rules, row-fit, grown-row, levels-start, levels-next, levels-done, sets-start, sets-next, sets-done, variables-start, variables-next, variables-done, max-of)

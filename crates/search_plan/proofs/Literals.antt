@@ -4,7 +4,7 @@
 --     Reached, reached-start .. -done      those of the first literals
 --     Allowed, allowed-start .. -done      none of the first literals says that p and p differ
 -- Assumes nothing.
-use mathlib.Core.Bool.{Bool, true, false, ◌||◌}
+use mathlib.Core.Bool.{Bool, true, false, ◌||◌, not}
 use mathlib.Core.List.{List, [], ◌∷◌, ◌++◌}
 use mathlib.Core.Path.{◌≡◌, refl, sym, ap, ap₂, ◌∙◌}
 use Prim.Native.Nat.{ℕ, zero, suc, ◌+◌, ◌-◌, ◌≤◌, ◌<◌}
@@ -26,7 +26,7 @@ use Rattle.search_plan.specs.Sets.{sides, reached_from, reached_by}
 -- ---- one literal
 
 module _ (sign p q : ℕ) where
-  pub idle-unequal : (sign ≡ 6 → ⊥) → false ≡ idle (literal_of sign p q)
+  pub idle-unequal : (sign ≡ 6 → ⊥) → eqb sign 6 ≡ idle (literal_of sign p q)
   unfolding idle literal_of
   idle-unequal n = rw (ne_eqb sign 6 n, literal_of)
 
@@ -34,7 +34,7 @@ module _ (sign p q : ℕ) where
   unfolding idle literal_of
   idle-equal e = rw (eq-eqb sign 6 e, literal_of)
 
-  pub self-equal : sign ≡ 6 → false ≡ self_unequal (literal_of sign p q)
+  pub self-equal : sign ≡ 6 → not (eqb sign 6) ≡ self_unequal (literal_of sign p q)
   unfolding self_unequal literal_of
   self-equal e = rw (eq-eqb sign 6 e, literal_of)
 

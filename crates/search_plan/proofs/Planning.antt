@@ -3,7 +3,7 @@
 --     lent-room .. sets-padded        the first places of a run of zeros are lent, and what comes back stands before the others
 --     order-room .. order-made        the order of the rows
 --     plan-patterns .. sets-named     what the steps ask
---     plan-made, plan-unfit           what the steps give is the plan; the answer where the runs are not well-formed
+--     plan-made, plan-fits            what the steps give is the plan, which is the answer
 --     plans-one                       two answers that meet the contract are equal
 -- Assumes nothing.
 use mathlib.Core.Bool.{Bool, true, false}
@@ -16,6 +16,7 @@ use borrow.Author.Tests.{ltb-true, ltb-false}
 use lib.Dec.{ltb}
 use lib.ListN.{length, get_or, take, drop, replicate, length-append, length-take, length-drop, length-replicate, get_or-replicate, take-append-drop, get_or-append, get_or-eq_default}
 use lib.Seq.{take_at, get_or-drop, get_or-append-add, ext_get_or}
+use Rattle.std.specs.Prelude.{Option, Some}
 use Rattle.meaning.specs.Rules.{variables}
 use Rattle.meaning.specs.Columns.{pad}
 use Rattle.meaning.specs.Values.{levels}
@@ -30,7 +31,7 @@ use Rattle.search_plan.specs.declared.Plan.{Plan}
 use Rattle.search_plan.specs.Asked.{never}
 use Rattle.search_plan.specs.Order.{level_count, up_to, ends_of, Blank, Arranged}
 use Rattle.search_plan.specs.Steps.{RuleFit}
-use Rattle.search_plan.specs.Plans.{Ordered, plan_of, unfit_plan, Plans, fits, unfits}
+use Rattle.search_plan.specs.Plans.{Ordered, plan_of, Plans, fits, unfits}
 use Rattle.search_plan.specs.Sets.{set_of, sets, reached_by}
 use Rattle.search_plan.proofs.Growing.{grow-length, sets-grow}
 
@@ -161,7 +162,7 @@ module _ (patterns literals : List ℕ) where
   pub plan-made : (n v : ℕ) (ls order ends reach : List ℕ) (a : ℕ) (b : Bool) → n ≡ pattern_count patterns → v ≡ variables (patterns_of patterns)
       → ls ≡ pad most_patterns (levels (patterns_of patterns)) → Ordered (take n ls) order ends → reach ≡ pad most_patterns (sets (patterns_of patterns))
       → a ≡ reached_by (take n reach) (literals_of literals) → b ≡ never (literals_of literals)
-      → record { fit = true; variables = v; levels = ls; order = order; ends = ends; reach = reach; asked = a; never = b } ≡ plan_of patterns literals
+      → record { variables = v; levels = ls; order = order; ends = ends; reach = reach; asked = a; never = b } ≡ plan_of patterns literals
   plan-made n v ls order ends reach a b hn hv hl ho hr ha hb =
       let s : take n ls ≡ levels (patterns_of patterns) = front (levels (patterns_of patterns)) ls n (levels-count patterns ∙ sym hn) hl in
       let t : take n reach ≡ sets (patterns_of patterns) = front (sets (patterns_of patterns)) reach n (length-sets patterns ∙ sym hn) hr in
@@ -170,13 +171,10 @@ module _ (patterns literals : List ℕ) where
       let k : a ≡ reached_by (sets (patterns_of patterns)) (literals_of literals) = ha ∙ ap (λ (l : List ℕ). reached_by l (literals_of literals)) t in
       rw (hv, hl, o, e, hr, k, hb)
 
-  pub plan-unfit : (r : Plan) → r ≡ unfit_plan → (FitClause patterns literals → ⊥) → Plans patterns literals r
-  plan-unfit r e n = rw e (unfits n)
-
-  pub plan-fits : (r : Plan) → r ≡ plan_of patterns literals → FitClause patterns literals → Plans patterns literals r
+  pub plan-fits : (r : Plan) → r ≡ plan_of patterns literals → FitClause patterns literals → Plans patterns literals (Some r)
   plan-fits r e f = rw e (fits f)
 
-  pub plans-one : (r s : Plan) → Plans patterns literals r → Plans patterns literals s → r ≡ s
+  pub plans-one : (r s : Option Plan) → Plans patterns literals r → Plans patterns literals s → r ≡ s
   plans-one r s (fits f) (fits g) = refl
   plans-one r s (fits f) (unfits n) = absurd (n f)
   plans-one r s (unfits n) (fits f) = absurd (n f)

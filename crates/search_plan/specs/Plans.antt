@@ -2,10 +2,9 @@
 --     row_numbers    a number for each pattern row that there may be
 --     Ordered       the rows by level and then by row, and where each level ends
 --     plan_of        the plan of a well-formed rule
---     unfit_plan     the answer to runs that do not say one
 --     Plans         the answer to any runs
 -- Assumes nothing.
-use Rattle.std.specs.Prelude.{true, false, List, ◌≡◌, ℕ, replicate}
+use Rattle.std.specs.Prelude.{List, ◌≡◌, ℕ, Option, None, Some}
 use Rattle.meaning.specs.Rules.{Pattern, variables}
 use Rattle.meaning.specs.Columns.{pad}
 use Rattle.meaning.specs.Values.{levels}
@@ -13,7 +12,7 @@ use Rattle.runs.specs.Limits.{most_patterns}
 use Rattle.runs.specs.Runs.{patterns_of, literals_of}
 use Rattle.runs.specs.Fit.{FitClause}
 use Rattle.search_plan.specs.declared.Plan.{Plan}
-use Rattle.search_plan.specs.Order.{level_count, end_count, up_to, ends_of}
+use Rattle.search_plan.specs.Order.{level_count, up_to, ends_of}
 use Rattle.search_plan.specs.Asked.{never}
 use Rattle.search_plan.specs.Sets.{sets, reached_by}
 
@@ -29,7 +28,6 @@ abbrev pub plan_of : List ℕ → List ℕ → Plan
 plan_of patterns literals =
     let ps : List Pattern = patterns_of patterns in
     record {
-      fit = true;
       variables = variables ps;
       levels = row_numbers (levels ps);
       order = row_numbers (up_to (levels ps) level_count);
@@ -39,19 +37,6 @@ plan_of patterns literals =
       never = never (literals_of literals);
     }
 
-abbrev pub unfit_plan : Plan
-unfit_plan =
-    record {
-      fit = false;
-      variables = 0;
-      levels = replicate most_patterns 0;
-      order = replicate most_patterns 0;
-      ends = replicate end_count 0;
-      reach = replicate most_patterns 0;
-      asked = 0;
-      never = false;
-    }
-
-pub data Plans (patterns literals : List ℕ) : Plan → Type 0 where
-  fits : FitClause patterns literals → Plans patterns literals (plan_of patterns literals)
-  unfits : (FitClause patterns literals → ⊥) → Plans patterns literals unfit_plan
+pub data Plans (patterns literals : List ℕ) : Option Plan → Type 0 where
+  fits : FitClause patterns literals → Plans patterns literals (Some (plan_of patterns literals))
+  unfits : (FitClause patterns literals → ⊥) → Plans patterns literals None

@@ -1,5 +1,5 @@
 // The level of each pattern row, and the number of variables.
-ghost use Rattle.std.specs.Prelude.{◌≡◌, ◌+◌, ◌<◌, max, length};
+ghost use Rattle.std.specs.Prelude.{◌≡◌, ◌+◌, ◌<◌, length};
 ghost use Rattle.meaning.specs.Rules.{variables as variables_of};
 ghost use Rattle.meaning.specs.Values.{highest as highest_of, level_of, levels as levels_of};
 ghost use Rattle.runs.specs.Limits.{most_variables};
@@ -7,14 +7,7 @@ ghost use Rattle.runs.specs.Runs.{pattern_count, pattern_args_in, pattern_in, pa
 ghost use Rattle.runs.specs.Fit.{Every, PatternAt};
 ghost use Rattle.search_plan.specs.Steps.{RowFit, ArgsFit, reached_of};
 
-use runs::{head_in, pattern_arg_in, pattern_count, pattern_count_in, pattern_kind_in};
-
-// The higher of two.
-fn more(x: u8, y: u8) -> u8
-    ensures { result ≡ max x y }
-{
-    if x < y { y } else { x }
-}
+use runs::{head_in, is_variable, pattern_arg_in, pattern_count, pattern_count_in};
 
 // A variable's level is its number and one.
 fn over_variable(head: u16) -> u8
@@ -31,20 +24,19 @@ fn highest(patterns: &[u16], levels: &[u8], i: usize) -> u8
 {
     let n = pattern_count_in(patterns, i);
     let mut most = 0;
-    let mut k = 0;
-    while k < n {
-        most = more(most, levels[pattern_arg_in(patterns, i, k)]);
-        k += 1;
+    for k in 0..n {
+        most = most.max(levels[pattern_arg_in(patterns, i, k)]);
     }
     most
 }
 
 // A symbol's level is the highest of its arguments'.
+// Beside set_of: the values and what is made of a symbol's arguments differ, and so do the contracts.
 fn level(patterns: &[u16], levels: &[u8], i: usize) -> u8
     requires { RowFit patterns.now (length levels.now) i }
     ensures { result ≡ level_of levels.now (pattern_in patterns.now i) }
 {
-    if pattern_kind_in(patterns, i) == 4 {
+    if is_variable(patterns, i) {
         return over_variable(head_in(patterns, i));
     }
     highest(patterns, levels, i)
@@ -56,11 +48,9 @@ pub(crate) fn levels(patterns: &[u16], levels: &mut [u8])
     ensures { levels.new ≡ levels_of (patterns_of patterns.now) }
 {
     let n = levels.len();
-    let mut i = 0;
-    while i < n {
+    for i in 0..n {
         let x = level(patterns, levels, i);
         levels[i] = x;
-        i += 1;
     }
 }
 
@@ -69,7 +59,7 @@ fn reached(patterns: &[u16], i: usize) -> u8
     requires { RowFit patterns.now i i }
     ensures { result ≡ reached_of (pattern_in patterns.now i) }
 {
-    if pattern_kind_in(patterns, i) == 4 {
+    if is_variable(patterns, i) {
         return over_variable(head_in(patterns, i));
     }
     0
@@ -82,10 +72,8 @@ pub(crate) fn variables(patterns: &[u16]) -> u8
 {
     let n = pattern_count(patterns);
     let mut most = 0;
-    let mut i = 0;
-    while i < n {
-        most = more(most, reached(patterns, i));
-        i += 1;
+    for i in 0..n {
+        most = most.max(reached(patterns, i));
     }
     most
 }

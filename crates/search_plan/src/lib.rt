@@ -8,7 +8,7 @@ ghost use Rattle.runs.specs.Runs.{patterns_of};
 ghost use Rattle.runs.specs.Fit.{FitClause};
 ghost use Rattle.search_plan.specs.Steps.{RuleFit};
 ghost use Rattle.search_plan.specs.Sets.{sets as sets_of};
-ghost use Rattle.search_plan.specs.Plans.{row_numbers, Ordered, plan_of, unfit_plan, Plans};
+ghost use Rattle.search_plan.specs.Plans.{row_numbers, Ordered, plan_of, Plans};
 
 use runs::fit::fit_clause;
 use runs::limits::{PATTERNS, VARIABLES};
@@ -25,11 +25,10 @@ pub const LEVELS: usize = VARIABLES + 1;
 pub const ENDS: usize = LEVELS + 1;
 
 // The levels of the pattern rows; the rows by level and then by row, those of level k from ends[k] up to ends[k + 1]; the variables in each row's
-// term, as bits; those that literals reach, other than those that say p = p; and whether some literal says that p and p differ. All is 0 where
-// the rule is not well-formed.
+// term, as bits; those that literals reach, other than those that say p = p; and whether some literal says that p and p differ.
+// Fixed memory, no heap: a number for each of 64 pattern rows.
 #[derive(Clone, Copy)]
 pub struct Plan {
-    pub fit: bool,
     pub variables: u8,
     pub levels: [u8; PATTERNS],
     pub order: [u8; PATTERNS],
@@ -39,33 +38,12 @@ pub struct Plan {
     pub never: bool,
 }
 
-fn unfit() -> Plan
-    ensures { result ≡ unfit_plan }
-{
-    Plan {
-        fit: false,
-        variables: 0,
-        levels: [0; PATTERNS],
-        order: [0; PATTERNS],
-        ends: [0; ENDS],
-        reach: [0; PATTERNS],
-        asked: 0,
-        never: false,
-    }
-}
-
-fn zeros() -> [u8; PATTERNS]
-    ensures { result ≡ replicate most_patterns 0 }
-{
-    [0; PATTERNS]
-}
-
 fn level_numbers(patterns: &[u16]) -> [u8; PATTERNS]
     requires { RuleFit patterns.now }
     ensures { result ≡ row_numbers (levels_of (patterns_of patterns.now)) }
 {
     let n = pattern_count(patterns);
-    let mut run = zeros();
+    let mut run = [0; PATTERNS];
     level::levels(patterns, &mut run[..n]);
     run
 }
@@ -75,7 +53,7 @@ fn reach_numbers(patterns: &[u16]) -> [u8; PATTERNS]
     ensures { result ≡ row_numbers (sets_of (patterns_of patterns.now)) }
 {
     let n = pattern_count(patterns);
-    let mut run = zeros();
+    let mut run = [0; PATTERNS];
     reach::sets(patterns, &mut run[..n]);
     run
 }
@@ -90,7 +68,7 @@ fn ordered(levels: &[u8]) -> Reading
     requires { length levels.now ≤ most_patterns }
     ensures { Ordered levels.now result.rows result.ends }
 {
-    let mut rows = zeros();
+    let mut rows = [0; PATTERNS];
     let ends = arrange::arrange(levels, &mut rows);
     Reading { rows, ends }
 }
@@ -102,14 +80,11 @@ fn planned(patterns: &[u16], literals: &[u16]) -> Plan
     let n = pattern_count(patterns);
     let variables = level::variables(patterns);
     let levels = level_numbers(patterns);
-    let arranged = ordered(&levels[..n]);
-    let order = arranged.rows;
-    let ends = arranged.ends;
+    let Reading { rows: order, ends } = ordered(&levels[..n]);
     let reach = reach_numbers(patterns);
     let asked = asked::asked(literals, &reach[..n]);
     let never = asked::never(literals);
     Plan {
-        fit: true,
         variables,
         levels,
         order,
@@ -120,11 +95,12 @@ fn planned(patterns: &[u16], literals: &[u16]) -> Plan
     }
 }
 
-pub fn plan_clause(patterns: &[u16], literals: &[u16]) -> Plan
+// The plan of a well-formed rule.
+pub fn plan_clause(patterns: &[u16], literals: &[u16]) -> Option<Plan>
     ensures plans { Plans patterns.now literals.now result }
 {
     if !fit_clause(patterns, literals) {
-        return unfit();
+        return None;
     }
-    planned(patterns, literals)
+    Some(planned(patterns, literals))
 }

@@ -6,7 +6,7 @@ ghost use Rattle.runs.specs.Fit.{Every, PatternAt};
 ghost use Rattle.search_plan.specs.Steps.{RowFit, ArgsFit};
 ghost use Rattle.search_plan.specs.Sets.{union as union_of, set_of, sets as sets_of};
 
-use runs::{head_in, pattern_arg_in, pattern_count_in, pattern_kind_in};
+use runs::{head_in, is_variable, pattern_arg_in, pattern_count_in};
 
 // One variable alone.
 fn only(head: u16) -> u8
@@ -23,19 +23,18 @@ fn union(patterns: &[u16], sets: &[u8], i: usize) -> u8
 {
     let n = pattern_count_in(patterns, i);
     let mut all = 0;
-    let mut k = 0;
-    while k < n {
+    for k in 0..n {
         all = all | sets[pattern_arg_in(patterns, i, k)];
-        k += 1;
     }
     all
 }
 
+// Beside level: the values and what is made of a symbol's arguments differ, and so do the contracts.
 fn set_of(patterns: &[u16], sets: &[u8], i: usize) -> u8
     requires { RowFit patterns.now (length sets.now) i }
     ensures { result ≡ set_of sets.now (pattern_in patterns.now i) }
 {
-    if pattern_kind_in(patterns, i) == 4 {
+    if is_variable(patterns, i) {
         return only(head_in(patterns, i));
     }
     union(patterns, sets, i)
@@ -47,10 +46,8 @@ pub(crate) fn sets(patterns: &[u16], sets: &mut [u8])
     ensures { sets.new ≡ sets_of (patterns_of patterns.now) }
 {
     let n = sets.len();
-    let mut i = 0;
-    while i < n {
+    for i in 0..n {
         let x = set_of(patterns, sets, i);
         sets[i] = x;
-        i += 1;
     }
 }

@@ -15,7 +15,9 @@ use borrow.Author.Tests.{eqb-true, eqb-false}
 use lib.Dec.{eqb}
 use lib.ListN.{get_or}
 use Rattle.meaning.proofs.Logic.{false-true}
-use Rattle.bits.specs.Sets.{bit_at, has, Low, Next}
+use Rattle.std.specs.Prelude.{Option, None, Some}
+use Rattle.std.specs.Option.{is_some}
+use Rattle.bits.specs.Sets.{bit_at, has, NoneFrom, First, Next}
 use Rattle.runs.specs.Limits.{arg_places}
 use Rattle.runs.specs.Runs.{pattern_count, pattern_count_in, pattern_arg_in}
 use Rattle.search_sets.specs.Places.{known_at, outside_at}
@@ -88,18 +90,22 @@ known-to patterns sets width p n k f = f.to
 
 -- ---- one member at most
 
-pub single-by : (sets : List ℕ) (base n f r : ℕ) → Low sets base n f → Next sets base n (f + 1) r → Single sets base n (eqb r (n * 64))
-single-by sets base n f r low next = record { one = λ e x y hx hy tx ty. at e x hx tx ∙ sym (at e y hy ty) }
+pub single-none : (sets : List ℕ) (base n : ℕ) → NoneFrom sets base n 0 → Single sets base n true
+single-none sets base n none = record { one = λ _ x y hx hy tx ty. false-true tx (none.none x (omega arith) hx) }
+
+pub single-by : (sets : List ℕ) (base n f : ℕ) (r : Option ℕ) (b : Bool) → First sets base n 0 f → Next sets base n (f + 1) r → is_some r ≡ not b → Single sets base n b
+single-by sets base n f (Some k) b low next z = record { one = λ e. false-true refl (rw e at z) }
+single-by sets base n f None b low next z = record { one = λ _ x y hx hy tx ty. at x hx tx ∙ sym (at y hy ty) }
   where
-    at : eqb r (n * 64) ≡ true → (x : ℕ) → x < n * 64 → has sets base x ≡ true → x ≡ f
-    at e x h t = omega (arith, below (dec_lt x f), above (dec_lt f x))
+    at : (x : ℕ) → x < n * 64 → has sets base x ≡ true → x ≡ f
+    at x h t = omega (arith, below (dec_lt x f), above (dec_lt f x))
       where
         below : Dec (x < f) → f ≤ x
-        below (yes l) = false-true t (low.first x l)
+        below (yes l) = false-true t (low.first x (omega arith) l)
         below (no l) = omega arith
 
         above : Dec (f < x) → x ≤ f
-        above (yes l) = false-true t (next.first x (omega arith) (omega (arith, eqb-true r (n * 64) e)))
+        above (yes l) = false-true t (next.none x (omega arith) h)
         above (no l) = omega arith
 
 pub fixed-outside : (sets : List ℕ) (at base width a : ℕ) → FixedAt sets at base width a false
@@ -145,4 +151,4 @@ fixed-not patterns sets width p n = record { fixed = λ e. false-true e refl }
 pub fixed-to : (patterns sets : List ℕ) (width p n k : ℕ) → FixedTo patterns sets width p n k → ArgTo patterns p n k
 fixed-to patterns sets width p n k f = f.to
 
-pub ruleset mine = (rules, pattern-row, flags-place, place-few, place-bit, place_set, place-room, known_start, known-turn, known-end, known-not, known-to, single-by, fixed-outside, fixed-inside, fixed-start, fixed-turn, fixed-end, fixed-not, fixed-to)
+pub ruleset mine = (rules, pattern-row, flags-place, place-few, place-bit, place_set, place-room, known_start, known-turn, known-end, known-not, known-to, single-none, single-by, fixed-outside, fixed-inside, fixed-start, fixed-turn, fixed-end, fixed-not, fixed-to)

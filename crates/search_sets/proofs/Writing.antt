@@ -3,7 +3,7 @@
 --     copied-start .. copied-end             words copied
 --     flag-on, flag_off, told-both           one bit as told; both flags of a row
 --     both_first, both-second, left-low      flags and sets read
---     cleared-start .. cleared-end, added    a set without a member, and a member put in
+--     added                                  a member put in
 --     narrowed, narrowable-again, paired     a row met with another; each of two
 --     with-start .. with-end, cut-room, row_cut    a set, and a row, cut to a set of another run
 -- Assumes nothing.
@@ -15,15 +15,18 @@ use Prim.Native.Nat.{ℕ, ◌+◌, ◌*◌, ◌/◌, ◌^◌, ◌%◌, ◌≤◌
 use native.Mathlib.Nat.{mul-le-mul}
 use native.Mathlib.Omega.{arith}
 use borrow.Author.Rules.{rules}
-use borrow.Author.Tests.{eqb-true, eqb-false, eq-eqb, ltb-false}
+use borrow.Author.Tests.{eqb-true, eqb-false, eq-eqb}
 use lib.Bits.{bit_and, bit_or, bit_xor}
-use lib.Dec.{eqb, ltb}
+use lib.Dec.{eqb}
 use lib.ListN.{length, get_or, set, length-set}
 use lib.Seq.{get_or-set_same, get_or-set_other}
+use Rattle.std.specs.Prelude.{Option, None, Some}
+use Rattle.meaning.proofs.Logic.{false-true}
+use Rattle.std.specs.Option.{is_some}
 use Rattle.bits.specs.Sets.{bit_at, Places, Low, Met}
 use Rattle.bits.proofs.Words.{or-has, without-has, only-has}
 use Rattle.search_sets.specs.Places.{most_words}
-use Rattle.search_sets.specs.Words.{Copied, Flagged, Told, Left, Narrowable, Narrowed, Pairable, Paired, Cleared, Added, MetWith, Cuttable, CutRow}
+use Rattle.search_sets.specs.Words.{Copied, Flagged, Told, Left, Narrowable, Narrowed, Pairable, Paired, Added, MetWith, Cuttable, CutRow}
 
 pub set-small : (width q : ℕ) → width ≤ most_words → q < 69 → q * width < 2 ^ 64
 set-small width q h l = let l' : q ≤ 69 = omega arith in let m : q * width ≤ 69 * 16 = mul-le-mul l' h in omega (arith, m)
@@ -126,36 +129,11 @@ both_first m x y e f = rw (sym f ∙ e) refl
 pub both-second : (m x y r : Bool) → m ≡ true → m ≡ x → r ≡ y → r ≡ (x && y)
 both-second m x y r e f g = g ∙ sym (rw (sym f ∙ e) refl)
 
-pub left-low : (ws : List ℕ) (base n r : ℕ) → Low ws base n r → Left ws base n (ltb r (n * 64))
-left-low ws base n r l = record { none = λ e x h. l.first x (omega (arith, ltb-false r (n * 64) e)) }
+pub left-low : (ws : List ℕ) (base n : ℕ) (o : Option ℕ) (s : Bool) → Low ws base n o → s ≡ is_some o → Left ws base n s
+left-low ws base n None s l e = record { none = λ _ x h. l.none x (omega arith) h }
+left-low ws base n (Some k) s l e = record { none = λ z. false-true e z }
 
--- ---- a set without a member, and a member put in
-
-pub cleared-start : (ws : List ℕ) (a i : ℕ) → i ≡ 0 → Cleared ws ws a i
-cleared-start ws a i e = record { long = refl; words = λ j h. absurd (omega arith); others = λ j h. refl }
-
-pub cleared-turn : (old new : List ℕ) (a n i w m : ℕ) → a + n ≤ length old → i < n → Cleared old new a i → w ≡ 0 → m ≡ i + 1 → Cleared old (set new (a + i) w) a m
-cleared-turn old new a n i w m p h k e q =
-    record {
-      long = length-set new (a + i) w ∙ k.long;
-      words = λ j l. word j l (eqb j i) refl;
-      others = λ j l. get_or-set_other new (a + i) j w 0 (λ z. outside j l z) ∙ k.others j (wider j l);
-    }
-  where
-    word : (j : ℕ) → j < m → (c : Bool) → eqb j i ≡ c → get_or (set new (a + i) w) (a + j) 0 ≡ 0
-    word j l true z = let t : j ≡ i = eqb-true j i z in rw t (get_or-set_same new (a + i) w 0 (omega (arith, k.long)) ∙ e)
-    word j l false z = get_or-set_other new (a + i) (a + j) w 0 (λ t. eqb-false j i z (omega arith)) ∙ k.words j (omega (arith, eqb-false j i z))
-
-    outside : (j : ℕ) → (j < a) ⊎ (a + m ≤ j) → j ≡ a + i → ⊥
-    outside j (inl l) z = omega arith
-    outside j (inr l) z = omega arith
-
-    wider : (j : ℕ) → (j < a) ⊎ (a + m ≤ j) → (j < a) ⊎ (a + i ≤ j)
-    wider j (inl l) = inl l
-    wider j (inr l) = inr (omega arith)
-
-pub cleared-end : (old new : List ℕ) (a n i : ℕ) → Cleared old new a i → i ≤ n → n ≤ i → Cleared old new a n
-cleared-end old new a n i k h l = let e : i ≡ n = omega arith in subst (Cleared old new a) e k
+-- ---- a member put in
 
 pub added : (old : List ℕ) (a k w : ℕ) → a + k / 64 < length old → Flagged (get_or old (a + k / 64) 0) (k % 64) true w → Added old (set old (a + k / 64) w) a k
 added old a k w h f =
@@ -228,4 +206,4 @@ row_cut old more met new size at a b n p h m t =
       outside = subst (λ (x : ℕ). Flagged x p false (get_or new (at + 1) 0)) (m.others (at + 1) (inr (omega (arith, h.low)))) t.outside;
     }
 
-pub ruleset mine = (rules, with-start, with-turn, with-end, cut-room, row_cut, cleared-start, cleared-turn, cleared-end, added, narrowable-again, paired, narrowed, both_first, both-second, left-low, set-small, copied-start, copied-turn, copied-end, flag-on, flag_off, told-both)
+pub ruleset mine = (rules, with-start, with-turn, with-end, cut-room, row_cut, added, narrowable-again, paired, narrowed, both_first, both-second, left-low, set-small, copied-start, copied-turn, copied-end, flag-on, flag_off, told-both)

@@ -4,3 +4,4 @@ pub mod Words
 pub mod Rising
 pub mod Sinking
 pub mod Parting
+pub mod Lent

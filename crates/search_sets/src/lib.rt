@@ -15,55 +15,66 @@ pub mod rising;
 pub mod sinking;
 mod words;
 
-// A row that is a variable has the variable's candidates, and does not lie outside.
-pub fn row_from_candidates(sets: &mut [u64], count: usize, width: usize, p: usize, v: usize)
-    requires { VariableIn (length sets.old) count width p v }
-    ensures { Keeps (VariableRow p v) count width sets.old sets.new }
-{
-    copy(sets, set_at(width, p), set_at(width, count + v), width);
-    tell(sets, set_at(width, count + VARIABLES), p, false);
+// How many pattern rows have sets in the run, and of how many words each set is.
+#[derive(Clone, Copy)]
+pub struct Layout {
+    pub count: usize,
+    pub width: usize,
 }
 
-// The candidates of a variable are cut to what its row can be. No: none is left, so there is no breach.
-pub fn cut_candidates(sets: &mut [u64], count: usize, width: usize, p: usize, v: usize) -> bool
-    requires { VariableIn (length sets.old) count width p v }
-    ensures { Steps (VariableRow p v) count width sets.old sets.new result }
-{
-    let at = set_at(width, count + v);
-    let flags = set_at(width, count + VARIABLES);
-    if marked(sets, flags, p) {
-        meet(sets, at, set_at(width, p), width);
-        return some(sets, at, width);
+impl Layout {
+    // A row that is a variable has the variable's candidates, and does not lie outside.
+    pub fn row_from_candidates(&self, sets: &mut [u64], p: usize, v: usize)
+        requires { VariableIn (length sets.old) self.now.count self.now.width p v }
+        ensures { Keeps (VariableRow p v) self.now.count self.now.width sets.old sets.new }
+    {
+        copy(
+            sets,
+            set_at(self.width, p),
+            set_at(self.width, self.count + v),
+            self.width,
+        );
+        tell(sets, set_at(self.width, self.count + VARIABLES), p, false);
     }
-    some(sets, at, width)
-}
 
-// Two rows that are known get the set of what both can be. No: that is nothing.
-fn meet_known(sets: &mut [u64], count: usize, width: usize, p: usize, q: usize) -> bool
-    requires { KnownPair sets.old count width p q }
-    ensures { Steps (EqualRows p q) count width sets.old sets.new result }
-{
-    let flags = set_at(width, count + VARIABLES);
-    let a = set_at(width, p);
-    let b = set_at(width, q);
-    let out = both_marked(sets, flags + 1, p, q);
-    narrow_both(sets, flags, a, b, width, p, q, out);
-    if out {
-        return true;
+    // The candidates of a variable are cut to what its row can be. No: none is left, so there is no breach.
+    pub fn cut_candidates(&self, sets: &mut [u64], p: usize, v: usize) -> bool
+        requires { VariableIn (length sets.old) self.now.count self.now.width p v }
+        ensures { Steps (VariableRow p v) self.now.count self.now.width sets.old sets.new result }
+    {
+        let at = set_at(self.width, self.count + v);
+        let flags = set_at(self.width, self.count + VARIABLES);
+        if marked(sets, flags, p) {
+            meet(sets, at, set_at(self.width, p), self.width);
+            return some(sets, at, self.width);
+        }
+        some(sets, at, self.width)
     }
-    some(sets, a, width)
-}
 
-// Two rows of an equal literal can be what both can be. No: that is nothing, so there is no breach.
-pub fn meet_rows(sets: &mut [u64], count: usize, width: usize, p: usize, q: usize) -> bool
-    requires { PairIn (length sets.old) count width p q }
-    ensures { Steps (EqualRows p q) count width sets.old sets.new result }
-{
-    if p == q {
-        return true;
+    // Two rows that are known get the set of what both can be. No: that is nothing.
+    fn meet_known(&self, sets: &mut [u64], p: usize, q: usize) -> bool
+        requires { KnownPair sets.old self.now.count self.now.width p q }
+        ensures { Steps (EqualRows p q) self.now.count self.now.width sets.old sets.new result }
+    {
+        let flags = set_at(self.width, self.count + VARIABLES);
+        let a = set_at(self.width, p);
+        let b = set_at(self.width, q);
+        let out = both_marked(sets, flags + 1, p, q);
+        narrow_both(sets, flags, a, b, self.width, p, q, out);
+        out || some(sets, a, self.width)
     }
-    if both_marked(sets, set_at(width, count + VARIABLES), p, q) {
-        return meet_known(sets, count, width, p, q);
+
+    // Two rows of an equal literal can be what both can be. No: that is nothing, so there is no breach.
+    pub fn meet_rows(&self, sets: &mut [u64], p: usize, q: usize) -> bool
+        requires { PairIn (length sets.old) self.now.count self.now.width p q }
+        ensures { Steps (EqualRows p q) self.now.count self.now.width sets.old sets.new result }
+    {
+        if p == q {
+            return true;
+        }
+        if both_marked(sets, set_at(self.width, self.count + VARIABLES), p, q) {
+            return self.meet_known(sets, p, q);
+        }
+        true
     }
-    true
 }

@@ -3,214 +3,140 @@ ghost use Rattle.std.specs.Prelude.{◌+◌, ◌<◌, length};
 ghost use Rattle.runs.specs.Runs.{row_count, count_in, pattern_count, pattern_count_in};
 ghost use Rattle.runs.specs.Fit.{Decides};
 ghost use Rattle.search_sets.specs.Keeps.{Steps};
-ghost use Rattle.search_sets.specs.Rising.{RowsOf, PatternAsk, RowAsk};
-ghost use Rattle.search_sets.specs.Sinking.{SinkAsk, SinkRowAsk, TableRow, AddAsk, AddArgAsk, AddsArg, AddsArgs, Sees, Seen, Looked, CutArgAsk, CutsArg, CutsArgs, CutsAsk, InsideBy, Inside, Enters};
+ghost use Rattle.search_sets.specs.Lent.{RowsOf, PatternAsk, RowAsk, SinkAsk, SinkRowAsk, TableRow, AddAsk, AddArgAsk, AddsArg, AddsArgs, Sees, Seen, Looked, CutArgAsk, CutsArg, CutsArgs, CutsAsk, InsideBy, Inside, Enters};
 
-use super::rising::{args_known, either, entry, fits, flags_at};
+use super::rising::{Symbols, entry};
 use super::words::{add, clear, cut_row, marked, set_at};
 use bits::member;
 use runs::limits::PLACES;
 use runs::{arg_in, count_in, pattern_arg_in, pattern_count_in, row_count};
 
-// Whether context row i fits and has a class of row p.
-fn in_table(
-    rows: &[u16],
-    table: &[u16],
-    patterns: &[u16],
-    sets: &[u64],
-    width: usize,
-    p: usize,
-    i: usize,
-) -> bool
-    requires { RowAsk rows.now table.now patterns.now (length sets.now) width p i }
-    ensures { Decides result (TableRow rows.now table.now patterns.now sets.now width p i) }
-{
-    if member(sets, set_at(width, p), entry(table, i)) {
-        return fits(rows, table, patterns, sets, width, p, i);
+impl<'a> Symbols<'a> {
+    // Whether context row i fits and has a class of row p.
+    fn in_table(&self, sets: &[u64], p: usize, i: usize) -> bool
+        requires { RowAsk self.now (length sets.now) p i }
+        ensures { Decides result (TableRow self.now sets.now p i) }
+    {
+        member(sets, set_at(self.width, p), entry(self.table, i)) && self.fits(sets, p, i)
     }
-    false
-}
 
-// The class of the k-th argument of context row i is put into the k-th set of the scratch.
-fn add_arg(rows: &[u16], table: &[u16], scratch: &mut [u64], width: usize, i: usize, k: usize)
-    requires { AddArgAsk rows.now table.now (length scratch.old) width i k }
-    ensures { AddsArg rows.now table.now scratch.old scratch.new width i k }
-{
-    let c = entry(table, arg_in(rows, i, k));
-    add(scratch, set_at(width, k), c);
-}
-
-fn add_args(rows: &[u16], table: &[u16], scratch: &mut [u64], width: usize, i: usize)
-    requires { AddAsk rows.now table.now (length scratch.old) width i }
-    ensures { AddsArgs rows.now table.now scratch.old scratch.new width i (count_in rows.now i) }
-{
-    let n = count_in(rows, i);
-    let mut k: usize = 0;
-    while k < n {
-        add_arg(rows, table, scratch, width, i, k);
-        k += 1;
+    // The class of the k-th argument of context row i is put into the k-th set of the scratch.
+    fn add_arg(&self, scratch: &mut [u64], i: usize, k: usize)
+        requires { AddArgAsk self.now (length scratch.old) i k }
+        ensures { AddsArg self.now scratch.old scratch.new i k }
+    {
+        let c = entry(self.table, arg_in(self.rows, i, k));
+        add(scratch, set_at(self.width, k), c);
     }
-}
 
-// The same where context row i fits and has a class of row p.
-fn see_row(
-    rows: &[u16],
-    table: &[u16],
-    patterns: &[u16],
-    sets: &[u64],
-    scratch: &mut [u64],
-    width: usize,
-    p: usize,
-    i: usize,
-) -> bool
-    requires { SinkRowAsk rows.now table.now patterns.now (length sets.now) (length scratch.old) width p i }
-    ensures { Sees rows.now table.now patterns.now sets.now scratch.old scratch.new width p i result }
-{
-    if in_table(rows, table, patterns, sets, width, p, i) {
-        add_args(rows, table, scratch, width, i);
-        return true;
-    }
-    false
-}
-
-// The same for all context rows. The answer is whether one is such.
-fn see(
-    rows: &[u16],
-    table: &[u16],
-    patterns: &[u16],
-    sets: &[u64],
-    scratch: &mut [u64],
-    width: usize,
-    p: usize,
-) -> bool
-    requires { SinkAsk rows.now table.now patterns.now (length sets.now) (length scratch.old) width p }
-    ensures { Seen rows.now table.now patterns.now sets.now scratch.old scratch.new width p (row_count rows.now) result }
-{
-    let n = row_count(rows);
-    let mut found = false;
-    let mut i: usize = 0;
-    while i < n {
-        found = either(
-            found,
-            see_row(rows, table, patterns, sets, scratch, width, p, i),
-        );
-        i += 1;
-    }
-    found
-}
-
-// The same with nothing in the scratch before.
-fn see_anew(
-    rows: &[u16],
-    table: &[u16],
-    patterns: &[u16],
-    sets: &[u64],
-    scratch: &mut [u64],
-    width: usize,
-    p: usize,
-) -> bool
-    requires { SinkAsk rows.now table.now patterns.now (length sets.now) (length scratch.old) width p }
-    ensures { Looked rows.now table.now patterns.now sets.now scratch.old scratch.new width p result }
-{
-    clear(scratch, 0, set_at(width, PLACES));
-    see(rows, table, patterns, sets, scratch, width, p)
-}
-
-// The k-th argument of row p is cut to the k-th set of the scratch.
-fn cut_arg(patterns: &[u16], sets: &mut [u64], scratch: &[u64], width: usize, p: usize, k: usize)
-    requires { CutArgAsk patterns.now (length sets.old) (length scratch.now) width p k }
-    ensures { CutsArg patterns.now scratch.now sets.old sets.new width p k }
-{
-    let a = pattern_arg_in(patterns, p, k);
-    cut_row(
-        sets,
-        flags_at(patterns, width),
-        set_at(width, a),
-        scratch,
-        set_at(width, k),
-        width,
-        a,
-    );
-}
-
-fn cut_args(patterns: &[u16], sets: &mut [u64], scratch: &[u64], width: usize, p: usize)
-    requires { CutsAsk patterns.now sets.old (length scratch.now) width p }
-    ensures { CutsArgs patterns.now scratch.now sets.old sets.new width p (pattern_count_in patterns.now p) }
-{
-    let n = pattern_count_in(patterns, p);
-    let mut k: usize = 0;
-    while k < n {
-        cut_arg(patterns, sets, scratch, width, p, k);
-        k += 1;
-    }
-}
-
-// Whether row p is known, lies inside and has known arguments.
-fn inside(patterns: &[u16], sets: &[u64], width: usize, p: usize) -> bool
-    requires { PatternAsk patterns.now (length sets.now) width p }
-    ensures { InsideBy patterns.now sets.now width p result }
-{
-    let at = flags_at(patterns, width);
-    if marked(sets, at, p) {
-        if marked(sets, at + 1, p) {
-            return false;
+    fn add_args(&self, scratch: &mut [u64], i: usize)
+        requires { AddAsk self.now (length scratch.old) i }
+        ensures { AddsArgs self.now scratch.old scratch.new i (count_in self.now.rows.now i) }
+    {
+        let n = count_in(self.rows, i);
+        for k in 0..n {
+            self.add_arg(scratch, i, k);
         }
-        return args_known(patterns, sets, width, p);
     }
-    false
-}
 
-// The same, with what is asked of the context rows and the scratch.
-fn enters(
-    rows: &[u16],
-    table: &[u16],
-    patterns: &[u16],
-    sets: &[u64],
-    scratch: &[u64],
-    width: usize,
-    p: usize,
-) -> bool
-    requires { SinkAsk rows.now table.now patterns.now (length sets.now) (length scratch.now) width p }
-    ensures { Enters rows.now table.now patterns.now sets.now (length scratch.now) width p result }
-{
-    inside(patterns, sets, width, p)
-}
-
-// The arguments of such a row are cut to those of the context rows that fit and have a class of it. No: there is none, so there is no breach.
-fn sink_known(
-    rows: &[u16],
-    table: &[u16],
-    patterns: &[u16],
-    sets: &mut [u64],
-    scratch: &mut [u64],
-    width: usize,
-    p: usize,
-) -> bool
-    requires { Inside rows.now table.now patterns.now sets.old (length scratch.old) width p }
-    ensures { Steps (RowsOf rows.now table.now patterns.now) (pattern_count patterns.now) width sets.old sets.new result }
-{
-    if see_anew(rows, table, patterns, sets, scratch, width, p) {
-        cut_args(patterns, sets, scratch, width, p);
-        return true;
+    // The same where context row i fits and has a class of row p.
+    fn see_row(&self, sets: &[u64], scratch: &mut [u64], p: usize, i: usize) -> bool
+        requires { SinkRowAsk self.now (length sets.now) (length scratch.old) p i }
+        ensures { Sees self.now sets.now scratch.old scratch.new p i result }
+    {
+        if self.in_table(sets, p, i) {
+            self.add_args(scratch, i);
+            return true;
+        }
+        false
     }
-    false
-}
 
-// The same of any row that is a symbol; nothing is changed where it may lie outside, or where it or an argument is not known.
-pub fn sink_row(
-    rows: &[u16],
-    table: &[u16],
-    patterns: &[u16],
-    sets: &mut [u64],
-    scratch: &mut [u64],
-    width: usize,
-    p: usize,
-) -> bool
-    requires { SinkAsk rows.now table.now patterns.now (length sets.old) (length scratch.old) width p }
-    ensures { Steps (RowsOf rows.now table.now patterns.now) (pattern_count patterns.now) width sets.old sets.new result }
-{
-    if enters(rows, table, patterns, sets, scratch, width, p) {
-        return sink_known(rows, table, patterns, sets, scratch, width, p);
+    // The same for all context rows. The answer is whether one is such.
+    fn see(&self, sets: &[u64], scratch: &mut [u64], p: usize) -> bool
+        requires { SinkAsk self.now (length sets.now) (length scratch.old) p }
+        ensures { Seen self.now sets.now scratch.old scratch.new p (row_count self.now.rows.now) result }
+    {
+        let n = row_count(self.rows);
+        let mut found = false;
+        for i in 0..n {
+            found |= self.see_row(sets, scratch, p, i);
+        }
+        found
     }
-    true
+
+    // The same with nothing in the scratch before.
+    fn see_anew(&self, sets: &[u64], scratch: &mut [u64], p: usize) -> bool
+        requires { SinkAsk self.now (length sets.now) (length scratch.old) p }
+        ensures { Looked self.now sets.now scratch.old scratch.new p result }
+    {
+        clear(scratch, 0, set_at(self.width, PLACES));
+        self.see(sets, scratch, p)
+    }
+
+    // The k-th argument of row p is cut to the k-th set of the scratch.
+    fn cut_arg(&self, sets: &mut [u64], scratch: &[u64], p: usize, k: usize)
+        requires { CutArgAsk self.now (length sets.old) (length scratch.now) p k }
+        ensures { CutsArg self.now scratch.now sets.old sets.new p k }
+    {
+        let a = pattern_arg_in(self.patterns, p, k);
+        cut_row(
+            sets,
+            self.flags_at(),
+            set_at(self.width, a),
+            scratch,
+            set_at(self.width, k),
+            self.width,
+            a,
+        );
+    }
+
+    fn cut_args(&self, sets: &mut [u64], scratch: &[u64], p: usize)
+        requires { CutsAsk self.now sets.old (length scratch.now) p }
+        ensures { CutsArgs self.now scratch.now sets.old sets.new p (pattern_count_in self.now.patterns.now p) }
+    {
+        let n = pattern_count_in(self.patterns, p);
+        for k in 0..n {
+            self.cut_arg(sets, scratch, p, k);
+        }
+    }
+
+    // Whether row p is known, lies inside and has known arguments.
+    fn inside(&self, sets: &[u64], p: usize) -> bool
+        requires { PatternAsk self.now (length sets.now) p }
+        ensures { InsideBy self.now sets.now p result }
+    {
+        let at = self.flags_at();
+        marked(sets, at, p) && !marked(sets, at + 1, p) && self.args_known(sets, p)
+    }
+
+    // The same, with what is asked of the context rows and the scratch.
+    fn enters(&self, sets: &[u64], scratch: &[u64], p: usize) -> bool
+        requires { SinkAsk self.now (length sets.now) (length scratch.now) p }
+        ensures { Enters self.now sets.now (length scratch.now) p result }
+    {
+        self.inside(sets, p)
+    }
+
+    // The arguments of such a row are cut to those of the context rows that fit and have a class of it. No: there is none, so there is no breach.
+    fn sink_known(&self, sets: &mut [u64], scratch: &mut [u64], p: usize) -> bool
+        requires { Inside self.now sets.old (length scratch.old) p }
+        ensures { Steps (RowsOf self.now) (pattern_count self.now.patterns.now) self.now.width sets.old sets.new result }
+    {
+        if self.see_anew(sets, scratch, p) {
+            self.cut_args(sets, scratch, p);
+            return true;
+        }
+        false
+    }
+
+    // The same of any row that is a symbol; nothing is changed where it may lie outside, or where it or an argument is not known.
+    pub fn sink_row(&self, sets: &mut [u64], scratch: &mut [u64], p: usize) -> bool
+        requires { SinkAsk self.now (length sets.old) (length scratch.old) p }
+        ensures { Steps (RowsOf self.now) (pattern_count self.now.patterns.now) self.now.width sets.old sets.new result }
+    {
+        if self.enters(sets, scratch, p) {
+            return self.sink_known(sets, scratch, p);
+        }
+        true
+    }
 }

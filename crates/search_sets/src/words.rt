@@ -19,10 +19,9 @@ pub(crate) fn copy(words: &mut [u64], a: usize, b: usize, n: usize)
     requires { Places (length words.old) a b n }
     ensures { Copied words.old words.new a b n }
 {
-    let mut i: usize = 0;
-    while i < n {
+    // No iterator: both places lie in one run.
+    for i in 0..n {
         words[a + i] = words[b + i];
-        i += 1;
     }
 }
 
@@ -32,10 +31,7 @@ pub(crate) fn flagged(x: u64, p: usize, on: bool) -> u64
     ensures { Flagged x p on result }
 {
     let with = x | (1 << p);
-    if on {
-        return with;
-    }
-    with ^ (1 << p)
+    if on { with } else { with ^ (1 << p) }
 }
 
 // Row p is known, and may lie outside as told.
@@ -61,10 +57,7 @@ pub(crate) fn both_marked(words: &[u64], at: usize, p: usize, q: usize) -> bool
     requires { (at < length words.now) × (p < 64) × (q < 64) }
     ensures { result ≡ (bit_at (get_or words.now at 0) p && bit_at (get_or words.now at 0) q) }
 {
-    if marked(words, at, p) {
-        return marked(words, at, q);
-    }
-    false
+    marked(words, at, p) && marked(words, at, q)
 }
 
 // Whether n words have a member.
@@ -72,7 +65,7 @@ pub(crate) fn some(words: &[u64], base: usize, n: usize) -> bool
     requires { (base + n ≤ length words.now) × (n ≤ most_words) }
     ensures { Left words.now base n result }
 {
-    lowest(words, base, n) < n * 64
+    lowest(words, base, n).is_some()
 }
 
 // Row p, whose words stand from a on, is cut to the words from b on, and may lie outside as told.
@@ -115,11 +108,8 @@ pub(crate) fn clear(words: &mut [u64], a: usize, n: usize)
     requires { a + n ≤ length words.old }
     ensures { Cleared words.old words.new a n }
 {
-    let mut i: usize = 0;
-    while i < n {
-        words[a + i] = 0;
-        i += 1;
-    }
+    let end = a + n;
+    words[a..end].fill(0);
 }
 
 // k is put into the set from a on.
@@ -136,12 +126,11 @@ pub(crate) fn meet_with(words: &mut [u64], a: usize, others: &[u64], b: usize, n
     requires { (a + n ≤ length words.old) × (b + n ≤ length others.now) }
     ensures { MetWith words.old others.now words.new a b n }
 {
-    let mut i: usize = 0;
-    while i < n {
+    // No iterator: the index names a word of either run.
+    for i in 0..n {
         let x = words[a + i];
         let y = others[b + i];
         words[a + i] = x & y;
-        i += 1;
     }
 }
 

@@ -12,8 +12,8 @@ use native.Mathlib.Numerals.{add-one}
 use borrow.Author.Rules.{rules}
 use borrow.Author.Tests.{eq-eqb, ne_eqb}
 use lib.Dec.{eqb}
-use lib.ListN.{length, get_or, take, drop, drop_of_length-le, length-take, length-map}
-use lib.Seq.{drop-cons, get_or-take}
+use lib.ListN.{length, get_or, drop, drop_of_length-le, length-map}
+use lib.Seq.{drop-cons}
 use Rattle.meaning.specs.ByTable.{same_list}
 use Rattle.meaning.specs.Equality.{rep_at}
 use Rattle.meaning.proofs.Lists.{same_list-true}
@@ -61,77 +61,73 @@ get_d_map g [] k h = absurd (omega arith)
 get_d_map g (a ∷ l) zero h = refl
 get_d_map g (a ∷ l) (suc k) h = get_d_map g l k (omega arith)
 
--- what g gives for the arguments from a place on, and the first so many of the numbers that are wanted
-module _ (g : ℕ → ℕ) (run : List ℕ) (at held : ℕ) (wanted : List ℕ) (count : ℕ)
-    (room : at + arg_places ≤ length run) (some : held ≤ arg_places) (few : count ≤ arg_places) (four : length wanted ≡ arg_places) where
+-- what g gives for the arguments from a place on, and the numbers that are wanted
+module _ (g : ℕ → ℕ) (run : List ℕ) (at held : ℕ) (wanted : List ℕ) (room : at + arg_places ≤ length run) (some : held ≤ arg_places) where
   abbrev values : List ℕ
   values = map g (args_from run at held)
 
   values_length : length values ≡ held
   values_length = length-map (args_from run at held) g ∙ args-length run at held room some
 
-  wanted-length : length (take count wanted) ≡ count
-  wanted-length = omega (arith, length-take count wanted)
-
   values-at : (k : ℕ) → k < held → get_or values k 0 ≡ g (get_or run (at + k) 0)
   values-at k h = get_d_map g (args_from run at held) k (omega (arith, args-length run at held room some)) ∙ ap g (arg-at run at held k h some)
 
-  pub over-lengths : (held ≡ count → ⊥) → same_list (take count wanted) values ≡ false
-  over-lengths n = same_list-lengths (take count wanted) values (λ e. n (omega (arith, values_length, wanted-length)))
+  pub over-lengths : (held ≡ length wanted → ⊥) → same_list wanted values ≡ false
+  over-lengths n = same_list-lengths wanted values (λ e. n (omega (arith, values_length)))
 
-  module _ (same : held ≡ count) where
-    pub over-start : Comparing (take count wanted) values 0
-    over-start = comparing-start (take count wanted) values (omega (arith, values_length, wanted-length))
+  module _ (same : held ≡ length wanted) where
+    pub over-start : Comparing wanted values 0
+    over-start = comparing-start wanted values (omega (arith, values_length))
 
-    module _ (k : ℕ) (c : Comparing (take count wanted) values k) where
-      pub over-next : (v : ℕ) → k < count → v ≡ g (get_or run (at + k) 0) → v ≡ get_or wanted k 0 → Comparing (take count wanted) values (k + 1)
-      over-next v h q e = comparing-next c (omega (arith, wanted-length)) (get_or-take count wanted k 0 h ∙ sym e ∙ q ∙ sym (values-at k (omega arith)))
+    module _ (k : ℕ) (c : Comparing wanted values k) where
+      pub over-next : (v : ℕ) → k < length wanted → v ≡ g (get_or run (at + k) 0) → v ≡ get_or wanted k 0 → Comparing wanted values (k + 1)
+      over-next v h q e = comparing-next c h (sym e ∙ q ∙ sym (values-at k (omega arith)))
 
-      pub over-differs : (v : ℕ) → k < count → v ≡ g (get_or run (at + k) 0) → (v ≡ get_or wanted k 0 → ⊥) → same_list (take count wanted) values ≡ false
+      pub over-differs : (v : ℕ) → k < length wanted → v ≡ g (get_or run (at + k) 0) → (v ≡ get_or wanted k 0 → ⊥) → same_list wanted values ≡ false
       over-differs v h q n =
-          comparing-differs c (omega (arith, wanted-length)) (λ e. n (q ∙ sym (values-at k (omega arith)) ∙ sym e ∙ get_or-take count wanted k 0 h))
+          comparing-differs c h (λ e. n (q ∙ sym (values-at k (omega arith)) ∙ sym e))
 
-      pub over_done : count ≤ k → same_list (take count wanted) values ≡ true
-      over_done h = comparing-done c (omega (arith, wanted-length))
+      pub over_done : length wanted ≤ k → same_list wanted values ≡ true
+      over_done h = comparing-done c h
 
 -- ---- the arguments of a row
 
 -- row i counts as many as are wanted, and the classes of the first k are the wanted ones
-pub record Matching (rows table : List ℕ) (i : ℕ) (wanted : List ℕ) (count k : ℕ) : Type 0 where
-  pub same : count_in rows i ≡ count
-  pub so : Comparing (take count wanted) (map (rep_at table) (args_in rows i)) k
+pub record Matching (rows table : List ℕ) (i : ℕ) (wanted : List ℕ) (k : ℕ) : Type 0 where
+  pub same : count_in rows i ≡ length wanted
+  pub so : Comparing wanted (map (rep_at table) (args_in rows i)) k
 
-module _ (rows table : List ℕ) (i : ℕ) (wanted : List ℕ) (count : ℕ) (f : RowFit rows (length table) i) (few : count ≤ arg_places) (four : length wanted ≡ arg_places) where
+module _ (rows table : List ℕ) (i : ℕ) (wanted : List ℕ) (f : RowFit rows (length table) i) where
   room : i * row_size + 2 + arg_places ≤ length rows
   room = omega (arith, f.inside)
 
-  pub matching-lengths : (n : ℕ) → n ≡ count_in rows i → (n ≡ count → ⊥) → false ≡ same_list (take count wanted) (map (rep_at table) (args_in rows i))
-  matching-lengths n e d = sym (over-lengths (rep_at table) rows (i * row_size + 2) (count_in rows i) wanted count room f.placed.few few four (λ q. d (e ∙ q)))
+  pub matching-lengths : (n : ℕ) → n ≡ count_in rows i → (n ≡ length wanted → ⊥) → false ≡ same_list wanted (map (rep_at table) (args_in rows i))
+  matching-lengths n e d = sym (over-lengths (rep_at table) rows (i * row_size + 2) (count_in rows i) wanted room f.placed.few (λ q. d (e ∙ q)))
 
-  pub matching-start : (n : ℕ) → n ≡ count_in rows i → n ≡ count → Matching rows table i wanted count 0
+  pub matching-start : (n : ℕ) → n ≡ count_in rows i → n ≡ length wanted → Matching rows table i wanted 0
   matching-start n e q =
-      let s : count_in rows i ≡ count = sym e ∙ q in
-      record { same = s; so = over-start (rep_at table) rows (i * row_size + 2) (count_in rows i) wanted count room f.placed.few few four s }
+      let s : count_in rows i ≡ length wanted = sym e ∙ q in
+      record { same = s; so = over-start (rep_at table) rows (i * row_size + 2) (count_in rows i) wanted room f.placed.few s }
 
-  module _ (k : ℕ) (m : Matching rows table i wanted count k) where
-    pub matching-inside : k < count → k < count_in rows i
+  module _ (k : ℕ) (m : Matching rows table i wanted k) where
+    pub matching-inside : k < length wanted → k < count_in rows i
     matching-inside h = omega (arith, m.same)
 
-    module _ (v : ℕ) (h : k < count) (q : v ≡ rep_at table (arg_in rows i k)) where
-      pub matching-next : v ≡ get_or wanted k 0 → Matching rows table i wanted count (k + 1)
+    module _ (v : ℕ) (h : k < length wanted) (q : v ≡ rep_at table (arg_in rows i k)) where
+      pub matching-next : v ≡ get_or wanted k 0 → Matching rows table i wanted (k + 1)
       matching-next e =
           record {
             same = m.same;
             so =
-                over-next (rep_at table) rows (i * row_size + 2) (count_in rows i) wanted count room f.placed.few few four m.same k m.so v h q e;
+                over-next (rep_at table) rows (i * row_size + 2) (count_in rows i) wanted room f.placed.few m.same k m.so v h q e;
           }
 
-      pub matching-differs : (v ≡ get_or wanted k 0 → ⊥) → false ≡ same_list (take count wanted) (map (rep_at table) (args_in rows i))
+      pub matching-differs : (v ≡ get_or wanted k 0 → ⊥) → false ≡ same_list wanted (map (rep_at table) (args_in rows i))
       matching-differs n =
-          sym (over-differs (rep_at table) rows (i * row_size + 2) (count_in rows i) wanted count room f.placed.few few four m.same k m.so v h q n)
+          sym (over-differs (rep_at table) rows (i * row_size + 2) (count_in rows i) wanted room f.placed.few m.same k m.so v h q n)
 
-    pub matching-done : count ≤ k → true ≡ same_list (take count wanted) (map (rep_at table) (args_in rows i))
-    matching-done h = sym (over_done (rep_at table) rows (i * row_size + 2) (count_in rows i) wanted count room f.placed.few few four m.same k m.so h)
+    pub matching-done : length wanted ≤ k → true ≡ same_list wanted (map (rep_at table) (args_in rows i))
+    matching-done h = sym (over_done (rep_at table) rows (i * row_size + 2) (count_in rows i) wanted room f.placed.few m.same k m.so h)
 
 module _ (rows : List ℕ) (places i k : ℕ) (f : RowFit rows places i) (h : k < count_in rows i) where
   pub arg-place : k < arg_places

@@ -12,6 +12,7 @@ use borrow.Author.Tests.{eqb-true, eq-eqb, ltb-true, ltb-false}
 use lib.Dec.{eqb, ltb}
 use lib.ListN.{length, get_or, drop, drop_of_length-le}
 use lib.Seq.{drop-cons}
+use Rattle.std.specs.Prelude.{None, Some}
 use Rattle.meaning.specs.Context.{row₀}
 use Rattle.meaning.specs.ByTable.{same_list}
 use Rattle.meaning.specs.Values.{held}
@@ -68,8 +69,8 @@ module _ (rows : List ℕ) (rep : ℕ → ℕ) (f : ℕ) (ns : List ℕ) where
   fits-symbol : (r : ℕ) → fits r ≡ true → symbol_in rows r ≡ f
   fits-symbol r e = sym (eqb-true f (symbol_in rows r) (and-true-left (eqb f (symbol_in rows r)) (same_list ns (map rep (args_in rows r))) e))
 
-  none-looked : ((r : ℕ) → r < n → fits r ≡ true → ⊥) → Looked rep f ns (rows_of rows) 65536
-  none-looked g = record { found = λ l. absurd (omega arith); absent = λ _ d. sym (held_none d g) }
+  none-looked : ((r : ℕ) → r < n → fits r ≡ true → ⊥) → Looked rep f ns (rows_of rows) None
+  none-looked g = record { so = λ d. sym (held_none d g) }
 
   -- ---- the walk along the keys
 
@@ -112,7 +113,7 @@ module _ (rows : List ℕ) (rep : ℕ → ℕ) (f : ℕ) (ns : List ℕ) where
                 let k : get_or keys p 0 ≡ get_or keys a.place 0 = ap (λ (x : ℕ). get_or keys x 0) q in
                 omega (arith, a.is, k)
 
-    pub seeking-ends : (m : ℕ) → m ≡ length keys → m ≤ p → Looked rep f ns (rows_of rows) 65536
+    pub seeking-ends : (m : ℕ) → m ≡ length keys → m ≤ p → Looked rep f ns (rows_of rows) None
     seeking-ends m q h = none-looked (λ r g e. omega (arith, (ahead r g e).inside, (ahead r g e).behind))
 
     module _ (m key : ℕ) (q : m ≡ length keys) (h : p < m) (is : key ≡ get_or keys p 0) where
@@ -133,7 +134,7 @@ module _ (rows : List ℕ) (rep : ℕ → ℕ) (f : ℕ) (ns : List ℕ) where
       symbol-is : key / key_base ≡ symbol_in rows at.row
       symbol-is = omega (arith, at.keyed, at.inside, l.indexed.few)
 
-      pub seeking-other : (x : ℕ) → x ≡ key / key_base → (x ≡ f → ⊥) → Looked rep f ns (rows_of rows) 65536
+      pub seeking-other : (x : ℕ) → x ≡ key / key_base → (x ≡ f → ⊥) → Looked rep f ns (rows_of rows) None
       seeking-other x e d =
           none-looked (λ r g t. d (omega (arith, e, is, ahead-key (omega arith) r g t, fits-symbol r t, s.above p (omega arith) (omega arith), l.indexed.few)))
 
@@ -159,12 +160,8 @@ module _ (rows : List ℕ) (rep : ℕ → ℕ) (f : ℕ) (ns : List ℕ) where
         key_here : key ≡ row_key rows i
         key_here = at.keyed ∙ ap (row_key rows) (sym (o ∙ row_is))
 
-        pub seeking-found : (b : Bool) (v : ℕ) → b ≡ same_list ns (map rep (args_in rows i)) → b ≡ true → v ≡ rep i → v < 65536 → Looked rep f ns (rows_of rows) v
-        seeking-found b v y t z low =
-            record {
-              found = λ _ d. z ∙ sym (held_first d i seeking-row.inside (fits-here b y ∙ t) earlier);
-              absent = λ g. absurd (omega arith);
-            }
+        pub seeking-found : (b : Bool) (v : ℕ) → b ≡ same_list ns (map rep (args_in rows i)) → b ≡ true → v ≡ rep i → Looked rep f ns (rows_of rows) (Some v)
+        seeking-found b v y t z = record { so = λ d. z ∙ sym (held_first d i seeking-row.inside (fits-here b y ∙ t) earlier) }
           where
             earlier : (r : ℕ) → r < i → fits r ≡ true → ⊥
             earlier r g u =

@@ -4,5 +4,5 @@ pub mod Comparing
 pub mod Holding
 pub mod Meeting
 pub mod Walking
-pub mod Reading
+pub mod Progress
 pub mod Planned

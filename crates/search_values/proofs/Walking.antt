@@ -1,141 +1,106 @@
--- The value of one pattern row, and the values of its arguments.
---     term-list .. term-symbol     a row that was read, a variable, a symbol
---     walk_end, walk_more          the arguments from one on
---     mine                         what the term function and the argument walk leave to show
+-- The value of one pattern row.
+--     value-given .. value-symbol      what a row asks, by its kind
+--     Listing, listing-start .. -done  the values of the first arguments of a row
+--     term-variable, term-symbol       a variable, and a symbol over the values of its arguments
+--     mine                             what the functions leave to show
 -- Assumes nothing.
-use mathlib.Core.List.{List, [], ◌∷◌, ◌++◌, append-nil}
-use mathlib.Core.Path.{◌≡◌, sym, ap, ap₂, ◌∙◌}
+use mathlib.Core.Bool.{Bool, true, false}
+use borrow.Author.Tests.{eqb-true, eqb-false}
+use lib.Dec.{eqb}
+use mathlib.Core.List.{List, [], ◌∷◌, ◌++◌, map-append}
+use mathlib.Core.Path.{◌≡◌, refl, sym, ap, ap₂, ◌∙◌}
 use Prim.Native.Nat.{ℕ, ◌+◌, ◌*◌, ◌≤◌, ◌<◌}
 use native.Mathlib.Omega.{arith}
 use native.Mathlib.Numerals.{add-one}
 use borrow.Author.Rules.{rules}
-use borrow.Author.Tests.{lt-ltb, le-ltb}
-use lib.ListN.{length, get_or, set, take, drop, drop_of_length-le}
-use lib.Seq.{append_snoc, drop-cons, take-suc-set}
+use lib.ListN.{length, get_or, set, take, length-set, length-take}
+use lib.Seq.{take_all, take-suc, take-suc-set}
 use Rattle.meaning.specs.Context.{Row}
-use Rattle.meaning.specs.Values.{pattern₀, args_of, number_of}
+use Rattle.meaning.specs.Values.{pattern₀, number_at, args_of, number_of}
 use Rattle.runs.specs.Limits.{pattern_size, arg_places}
 use Rattle.runs.specs.Runs.{pattern_count, pattern_kind_in, head_in, pattern_count_in, pattern_arg_in, pattern_args_in, patterns_of}
 use Rattle.runs.proofs.Saying.{patterns-at, pattern-variable, pattern-symbol, arg-at, args-length}
-use Rattle.search_plan.specs.Steps.{RuleFit}
-use Rattle.search_values.specs.Reading.{SymbolFit, VariableFit, ArgOf, TermFit, WalkFit, Walked, Asked, look_of, term_of}
+use Rattle.search_plan.specs.Steps.{ArgsFit}
+use Rattle.search_values.specs.Reading.{SymbolFit, VariableFit, Asked, look_of, term_of}
 
 -- ---- what a row asks
 
-pub term-known : (rows table keys patterns order : List ℕ) (read places fresh row : ℕ) → Asked rows table keys patterns order read places → TermFit patterns fresh row
-    → row < places
-term-known rows table keys patterns order read places fresh row a t = omega (arith, t.next, t.known, a.reading.valued)
+module _ (rows table keys patterns order : List ℕ) (read places row : ℕ) (k : Bool) (a : Asked rows table keys patterns order read places) (h : row < pattern_count patterns)
+    (e : k ≡ eqb (pattern_kind_in patterns row) 4) where
+  pub value-given : k ≡ true → VariableFit patterns row
+  value-given is = record { inside = h; low = (a.reading.rule.placed.each row h).variable (eqb-true (pattern_kind_in patterns row) 4 (sym e ∙ is)) }
 
-pub term-inside : (patterns : List ℕ) (fresh row : ℕ) → TermFit patterns fresh row → row < pattern_count patterns
-term-inside patterns fresh row t = omega (arith, t.next, t.known)
+  module _ (n : k ≡ false) where
+    pub value-args : ArgsFit patterns places row
+    value-args =
+        record { inside = h; known = omega (arith, a.reading.valued); placed = (a.reading.rule.placed.each row h).symbol (eqb-false (pattern_kind_in patterns row) 4 (sym e ∙ n)) }
 
-module _ (patterns : List ℕ) (row : ℕ) (r : RuleFit patterns) where
-  pub term-given : row < pattern_count patterns → pattern_kind_in patterns row ≡ 4 → VariableFit patterns row
-  term-given h is = record { inside = h; low = (r.placed.each row h).variable is }
+    pub value-symbol : SymbolFit patterns row
+    value-symbol =
+        record { few = omega (arith, a.reading.rule.few); inside = h; symbol = eqb-false (pattern_kind_in patterns row) 4 (sym e ∙ n); placed = (a.reading.rule.placed.each row h).symbol (eqb-false (pattern_kind_in patterns row) 4 (sym e ∙ n)) }
 
-  pub term-look : row < pattern_count patterns → (pattern_kind_in patterns row ≡ 4 → ⊥) → SymbolFit patterns row
-  term-look h n = record { few = omega (arith, r.few); inside = h; symbol = n; placed = (r.placed.each row h).symbol n }
+    pub value-room : (m : ℕ) (args : List ℕ) → m ≡ pattern_count_in patterns row → length args ≡ arg_places → m ≤ length args
+    value-room m args em l = omega (arith, value-args.placed.few)
 
-  pub term-walk : row < pattern_count patterns → (pattern_kind_in patterns row ≡ 4 → ⊥) → WalkFit patterns row 0
-  term-walk h n = record { symbol = term-look h n; within = omega arith }
+pub front-long : (m : ℕ) (args : List ℕ) → m ≤ length args → m ≡ length (take m args)
+front-long m args h = omega (arith, length-take m args)
+
+-- ---- the values of the arguments
+
+pub record Listing (patterns values : List ℕ) (row n : ℕ) (args : List ℕ) (k : ℕ) : Type 0 where
+  pub count : n ≡ pattern_count_in patterns row
+  pub long : length args ≡ arg_places
+  pub same : take k args ≡ args_of values (take k (pattern_args_in patterns row))
+
+module _ (patterns values : List ℕ) (row : ℕ) (f : ArgsFit patterns (length values) row) where
+  given : length (pattern_args_in patterns row) ≡ pattern_count_in patterns row
+  given = args-length patterns (row * pattern_size + 3) (pattern_count_in patterns row) (omega (arith, f.inside)) f.placed.few
+
+  pub listing-start : (n : ℕ) (args : List ℕ) → n ≡ pattern_count_in patterns row → length args ≡ arg_places → Listing patterns values row n args 0
+  listing-start n args e l = record { count = e; long = l; same = refl }
+
+  module _ (n k : ℕ) (args : List ℕ) (p : Listing patterns values row n args k) where
+    pub listing-inside : k < n → k < pattern_count_in patterns row
+    listing-inside h = omega (arith, p.count)
+
+    pub listing-place : k < n → k < length args
+    listing-place h = omega (arith, p.count, p.long, f.placed.few)
+
+    pub listing-next : (v m : ℕ) → k < n → v ≡ number_at values (pattern_arg_in patterns row k) → m ≡ k + 1 → Listing patterns values row n (set args k v) m
+    listing-next v m h e em =
+        record {
+          count = p.count;
+          long = length-set args k v ∙ p.long;
+          same =
+              rw (em, add-one k)
+              (take-suc-set args k v (listing-place h)
+              ∙ ap₂ (λ (l : List ℕ) (x : ℕ). l ++ (x ∷ [])) p.same (e ∙ ap (number_at values) (sym here))
+              ∙ sym (map-append (number_at values) (take k (pattern_args_in patterns row)) (get_or (pattern_args_in patterns row) k 0 ∷ []))
+              ∙ ap (args_of values) (sym (take-suc (pattern_args_in patterns row) k 0 (omega (arith, given, p.count)))));
+        }
+      where
+        here : get_or (pattern_args_in patterns row) k 0 ≡ pattern_arg_in patterns row k
+        here = arg-at patterns (row * pattern_size + 3) (pattern_count_in patterns row) k (omega (arith, p.count)) f.placed.few
+
+    pub listing-done : n ≤ k → k ≤ n → take (pattern_count_in patterns row) args ≡ args_of values (pattern_args_in patterns row)
+    listing-done h l =
+        let q : pattern_count_in patterns row ≡ k = omega (arith, p.count) in
+        ap (λ (x : ℕ). take x args) q ∙ p.same ∙ ap (args_of values) (take_all k (pattern_args_in patterns row) (omega (arith, given, p.count)))
 
 -- ---- one row
 
-module _ (rows : List Row) (rep : ℕ → ℕ) (patterns order chosen values : List ℕ) (read fresh row : ℕ) where
-  pub term-list : row < fresh → get_or values row 0 ≡ term_of rows rep (patterns_of patterns) order chosen values read fresh row
-  unfolding term_of
-  term-list h = rw (lt-ltb row fresh h, term_of)
+module _ (rows : List Row) (rep : ℕ → ℕ) (patterns order chosen values : List ℕ) (read row : ℕ) (k : Bool) (h : row < pattern_count patterns) (e : k ≡ eqb (pattern_kind_in patterns row) 4) where
+  pub term-variable : (x : ℕ) → k ≡ true → x ≡ get_or chosen (head_in patterns row) 0
+      → x ≡ term_of rows rep (patterns_of patterns) order chosen values read row
+  unfolding term_of number_of
+  term-variable x is q = rw (term_of, patterns-at patterns row pattern₀ h, pattern-variable patterns row (eqb-true (pattern_kind_in patterns row) 4 (sym e ∙ is))) q
 
-  pub term-read : (x : ℕ) → row < fresh → x ≡ term_of rows rep (patterns_of patterns) order chosen values read fresh row → x ≡ get_or values row 0
-  term-read x h e = e ∙ sym (term-list h)
+  pub term-symbol : (x n : ℕ) (args : List ℕ) → k ≡ false → n ≡ pattern_count_in patterns row → take (pattern_count_in patterns row) args ≡ args_of values (pattern_args_in patterns row)
+      → x ≡ look_of rows rep (patterns_of patterns) (head_in patterns row) (take n args) values (take read order) row
+      → x ≡ term_of rows rep (patterns_of patterns) order chosen values read row
+  unfolding term_of number_of
+  term-symbol x n args d en y q =
+      rw (term_of, patterns-at patterns row pattern₀ h, pattern-symbol patterns row (eqb-false (pattern_kind_in patterns row) 4 (sym e ∙ d)))
+      (rw (en, y) at q)
 
-  module _ (t : TermFit patterns fresh row) (h : fresh ≤ row) (k : ℕ) (e : k ≡ pattern_kind_in patterns row) where
-    inside : row < pattern_count patterns
-    inside = omega (arith, t.next, t.known)
-
-    pub term-variable : (x : ℕ) → k ≡ 4 → x ≡ get_or chosen (head_in patterns row) 0
-        → x ≡ term_of rows rep (patterns_of patterns) order chosen values read fresh row
-    unfolding term_of number_of
-    term-variable x is q =
-        rw (le-ltb row fresh h, term_of, patterns-at patterns row pattern₀ inside, pattern-variable patterns row (sym e ∙ is)) q
-
-    pub term-symbol : (x : ℕ) (done w : List ℕ) → (k ≡ 4 → ⊥) → Walked patterns values row 0 done w
-        → x ≡ look_of rows rep (patterns_of patterns) (head_in patterns row) (take (pattern_count_in patterns row) w) values (take read order) row
-        → x ≡ term_of rows rep (patterns_of patterns) order chosen values read fresh row
-    unfolding term_of number_of
-    term-symbol x done w n y q =
-        rw (le-ltb row fresh h, term_of, patterns-at patterns row pattern₀ inside, pattern-symbol patterns row (λ z. n (e ∙ z)))
-        (rw y.args at q)
-
--- ---- the arguments
-
-module _ (patterns : List ℕ) (row : ℕ) (f : SymbolFit patterns row) where
-  long : length (pattern_args_in patterns row) ≡ pattern_count_in patterns row
-  long = args-length patterns (row * pattern_size + 3) (pattern_count_in patterns row) (omega (arith, f.inside)) f.placed.few
-
-  pub walk-place : (k : ℕ) → k < pattern_count_in patterns row → k < arg_places
-  walk-place k h = omega (arith, f.placed.few)
-
-  pub walk-arg : (k a : ℕ) → k < pattern_count_in patterns row → a ≡ pattern_arg_in patterns row k → ArgOf patterns row k a
-  walk-arg k a h p =
-      record {
-        first =
-            drop-cons (pattern_args_in patterns row) k 0 (omega (arith, long))
-            ∙ ap₂ ◌∷◌ (arg-at patterns (row * pattern_size + 3) (pattern_count_in patterns row) k h f.placed.few ∙ sym p)
-            (ap (λ (i : ℕ). drop i (pattern_args_in patterns row)) (sym (add-one k)));
-        earlier = omega (arith, f.placed.earlier.each k h);
-      }
-
-module _ (patterns : List ℕ) (row k : ℕ) (f : WalkFit patterns row k) where
-  pub walk_inside : row < pattern_count patterns
-  walk_inside = f.symbol.inside
-
-  pub walk-symbol : SymbolFit patterns row
-  walk-symbol = f.symbol
-
-  pub walk-next : k < pattern_count_in patterns row → WalkFit patterns row (k + 1)
-  walk-next h = record { symbol = f.symbol; within = omega arith }
-
-  pub walk_end : (values done : List ℕ) (n : ℕ) → n ≡ pattern_count_in patterns row → n ≤ k → Walked patterns values row k done done
-  walk_end values done n e g =
-      let z : pattern_count_in patterns row ≡ k = omega (arith, f.within) in
-      let l : length (pattern_args_in patterns row) ≤ k = omega (arith, long patterns row f.symbol) in
-      record { args = rw (drop_of_length-le (pattern_args_in patterns row) l) (ap (λ (x : ℕ). take x done) z ∙ sym (append-nil (take k done))) }
-
-pub walk_more : (patterns values : List ℕ) (row k a v : ℕ) (done w r : List ℕ) → ArgOf patterns row k a → v ≡ get_or values a 0
-    → take (k + 1) w ≡ take k done ++ (v ∷ [])
-    → Walked patterns values row (k + 1) w r
-    → Walked patterns values row k done r
-walk_more patterns values row k a v done w r f q m y =
-    record {
-      args =
-          y.args ∙ ap (◌++ args_of values (drop (k + 1) (pattern_args_in patterns row))) m
-          ∙ append_snoc (take k done) v (args_of values (drop (k + 1) (pattern_args_in patterns row)))
-          ∙ rw f.first (ap (λ (x : ℕ). take k done ++ (x ∷ args_of values (drop (k + 1) (pattern_args_in patterns row)))) q);
-    }
-
-pub one_more : (done : List ℕ) (k v : ℕ) → k < arg_places → length done ≡ arg_places → take (k + 1) (set done k v) ≡ take k done ++ (v ∷ [])
-one_more done k v h four = rw (add-one k) (take-suc-set done k v (omega arith))
-
-pub value-fit : (patterns : List ℕ) (row : ℕ) → row < pattern_count patterns → TermFit patterns row row
-value-fit patterns row h = record { next = h; known = omega arith }
-
-pub ruleset mine = (
-  rules,
-  term-inside,
-  term-known,
-  term-given,
-  term-look,
-  term-walk,
-  term-list,
-  term-variable,
-  term-symbol,
-  walk_inside,
-  walk_end,
-  walk-symbol,
-  walk-place,
-  walk-arg,
-  walk-next,
-  one_more,
-  value-fit,
-)
+pub ruleset mine = (rules, value-given, value-args, value-symbol, value-room, front-long, listing-start, listing-inside, listing-place, listing-next, listing-done, term-variable, term-symbol)

@@ -1,3 +1,4 @@
 pub mod Index
 pub mod Lookup
 pub mod Reading
+pub mod Lent

@@ -3,7 +3,6 @@ ghost use Rattle.std.specs.Prelude.{◌≡◌, ◌*◌, ◌/◌, ◌%◌, ◌<�
 ghost use Rattle.runs.specs.Runs.{row_count};
 ghost use Rattle.search_values.specs.Index.{key_base, row_key};
 
-use casts::{u32_of_u16, usize_of_u16};
 use runs::symbol_in;
 
 // What a symbol counts in a key: more than any row's number.
@@ -14,14 +13,14 @@ pub(crate) fn row_key(rows: &[u16], i: usize) -> u32
     requires i_lt_key_base { i < key_base }
     ensures { result ≡ row_key rows.now i }
 {
-    u32_of_u16(symbol_in(rows, i)) * BASE + i as u32
+    u32::from(symbol_in(rows, i)) * BASE + i as u32
 }
 
 // The lowest number that a key of a symbol can be.
 pub(crate) fn lowest_key(symbol: u16) -> u32
     ensures { result ≡ symbol * key_base }
 {
-    u32_of_u16(symbol) * BASE
+    u32::from(symbol) * BASE
 }
 
 // The symbol and the row of a key.
@@ -34,5 +33,5 @@ pub(crate) fn key_symbol(key: u32) -> u16
 pub(crate) fn key_row(key: u32) -> usize
     ensures { result ≡ key % key_base }
 {
-    usize_of_u16((key % BASE) as u16)
+    usize::from((key % BASE) as u16)
 }

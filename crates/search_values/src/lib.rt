@@ -5,17 +5,32 @@
 ghost use Rattle.std.specs.Prelude.{◌≡◌, ◌≤◌, length};
 ghost use Rattle.runs.specs.Runs.{row_count};
 ghost use Rattle.search_values.specs.Index.{key_base, row_keys, IndexFit, Indexed};
-ghost use Rattle.search_values.specs.Reading.{Asked, read_in};
+ghost use Rattle.search_values.specs.Lent.{Asked, read_in};
 
-use casts::usize_of_u8;
 use keys::row_key;
 use runs::limits::VARIABLES;
 use sorting::sort;
-use terms::value_at;
 
 mod keys;
 mod lookup;
 mod terms;
+
+// The rows of a context, the table of its classes, and the rows sorted by symbol.
+#[derive(Clone, Copy)]
+pub struct Ledger<'a> {
+    pub rows: &'a [u16],
+    pub table: &'a [u16],
+    pub keys: &'a [u32],
+}
+
+// Pattern rows that are read in an order, under the rows that are chosen for their variables.
+#[derive(Clone, Copy)]
+pub struct Reading<'a> {
+    pub ledger: Ledger<'a>,
+    pub patterns: &'a [u16],
+    pub order: &'a [u8],
+    pub chosen: [u16; VARIABLES],
+}
 
 // The keys of all rows, row by row.
 fn fill(rows: &[u16], keys: &mut [u32])
@@ -24,10 +39,8 @@ fn fill(rows: &[u16], keys: &mut [u32])
     ensures { keys.new ≡ row_keys rows.now }
 {
     let n = keys.len();
-    let mut i = 0;
-    while i < n {
+    for i in 0..n {
         keys[i] = row_key(rows, i);
-        i += 1;
     }
 }
 
@@ -40,26 +53,17 @@ pub fn index(rows: &[u16], keys: &mut [u32], spare: &mut [u32])
     sort(keys, spare);
 }
 
-// The rows of an order, from a place on, are read: each gets its value.
-pub fn read(
-    rows: &[u16],
-    table: &[u16],
-    keys: &[u32],
-    patterns: &[u16],
-    order: &[u8],
-    from: usize,
-    chosen: [u16; VARIABLES],
-    values: &mut [u32],
-)
-    requires { Asked rows.now table.now keys.now patterns.now order.now (length order.now) (length values.old) }
-    ensures { values.new ≡ read_in rows.now table.now patterns.now order.now chosen values.old from }
-{
-    let n = order.len();
-    let mut j = from;
-    while j < n {
-        let row = usize_of_u8(order[j]);
-        let v = value_at(rows, table, keys, patterns, order, j, values, chosen, row);
-        values[row] = v;
-        j += 1;
+impl<'a> Reading<'a> {
+    // The rows of the order, from a place on, are read: each gets its value.
+    pub fn read(&self, from: usize, values: &mut [u32])
+        requires { Asked self.now (length self.now.order.now) (length values.old) }
+        ensures { values.new ≡ read_in self.now values.old from }
+    {
+        let n = self.order.len();
+        for j in from..n {
+            let row = usize::from(self.order[j]);
+            let v = self.value_at(values, j, row);
+            values[row] = v;
+        }
     }
 }

@@ -4,10 +4,8 @@
 // without its last byte (`.short`) shows refusal 10.
 #![tactic(auto)]
 
-use casts::usize_of_u8;
-use normaliser::Written;
-use replies::{INPUT_LIMIT, Outcome, Refusal};
-use reply_lines::{Line, breach_line, none_line, refusal_line};
+use replies::INPUT_LIMIT;
+use reply_lines::{Line, over_line, refusal_line, reply_line};
 use std::fs::File;
 use std::io::Read;
 use std::rt::Files;
@@ -19,32 +17,17 @@ const TEXT_SPACE: usize = INPUT_LIMIT + 1;
 // More bytes than any normal text has.
 const NORMAL_SPACE: usize = 8192;
 
-// The first n bytes but the last of them.
-fn put(rt: &impl Print, bytes: &[u8], n: usize) -> io::Result<()> {
-    if n > bytes.len() {
-        return Ok(());
-    }
-    if n > 0 {
-        rt.write_all(&bytes[..n - 1])?;
-    }
-    Ok(())
-}
-
 // A reply as the programs print it, without its line feed.
 fn show(rt: &impl Print, line: Line) -> io::Result<()> {
-    let bytes = line.bytes;
-    put(rt, &bytes, line.len)
+    match line.as_bytes() {
+        [shown @ .., _] => rt.write_all(shown),
+        [] => Ok(()),
+    }
 }
 
 fn tell_finder(rt: &impl Print, text: &[u8]) -> io::Result<()> {
     let r = finder::find(text);
-    let outcome = r.outcome;
-    let places = r.places;
-    match outcome {
-        Outcome::Breach(n) => show(rt, breach_line(usize_of_u8(n), places)),
-        Outcome::Clear => show(rt, none_line()),
-        Outcome::Refused(x) => show(rt, refusal_line(x)),
-    }
+    show(rt, reply_line(r.outcome, r.places))
 }
 
 fn tell_same(rt: &impl Print, is: bool) -> io::Result<()> {
@@ -56,10 +39,9 @@ fn tell_same(rt: &impl Print, is: bool) -> io::Result<()> {
 }
 
 fn tell_written(rt: &impl Print, text: &[u8], normal: &[u8], lent: &mut [u8]) -> io::Result<()> {
-    let written = normaliser::normalise(text, lent);
-    match written {
-        Written::Wrote(n) => tell_same(rt, n == normal.len() && *lent == *normal),
-        Written::Refused(x) => show(rt, refusal_line(x)),
+    match normaliser::normalise(text, lent) {
+        Ok(n) => tell_same(rt, n == normal.len() && *lent == *normal),
+        Err(x) => show(rt, refusal_line(x)),
     }
 }
 
@@ -70,14 +52,9 @@ fn tell_normaliser(rt: &impl Print, text: &[u8], normal: &[u8]) -> io::Result<()
 }
 
 fn tell_long(rt: &impl Print) -> io::Result<()> {
-    let x = Refusal {
-        number: 11,
-        line: 0,
-        offset: 0,
-    };
-    show(rt, refusal_line(x))?;
+    show(rt, over_line())?;
     print!(rt; " / ")?;
-    show(rt, refusal_line(x))
+    show(rt, over_line())
 }
 
 fn tell(rt: &impl Print, text: &[u8], normal: &[u8]) -> io::Result<()> {

@@ -1,42 +1,27 @@
--- The look-up of a digit.
---     digit-is, digit-none    its two answers
---     digit_value, digit_not  what an answer says of the byte
+-- What the look-up of a digit says of the byte.
+--     digit-some, digit-none    it has a value, or none
 -- Assumes nothing.
-use mathlib.Core.Bool.{Bool, true, false}
-use mathlib.Core.Path.{◌≡◌, refl, sym, ◌∙◌}
+use mathlib.Core.Bool.{Bool, true, false, cond}
+use mathlib.Core.Path.{◌≡◌, refl}
 use Prim.Native.Nat.{ℕ, ◌<◌, ◌≤◌}
-use native.Mathlib.Omega.{arith}
 use lib.Dec.{ltb}
-use borrow.Author.Rules.{rules}
-use borrow.Author.Tests.{lt-ltb, le-ltb, ltb-true, ltb-false}
+use borrow.Author.Tests.{ltb-true, ltb-false}
+use Rattle.std.specs.Prelude.{Some, None, is_some}
 use Rattle.meaning.specs.Text.{digit}
-use Rattle.text_lines.specs.Choice.{choose}
 use Rattle.text_lines.specs.Digits.{digit_of}
-use Rattle.text_lines.specs.declared.digits.Digit.{Digit}
-use Rattle.text_lines.specs.declared.digits.Digit.TheVariants.{Value, Not}
 
-pub digit-is : (b v : ℕ) → v ≡ digit b → v < 16 → Value v ≡ digit_of b
+pub digit-some : (b : ℕ) → is_some (digit_of b) ≡ true → digit b < 16
 unfolding digit_of
-digit-is b v e h = rw (← e, lt-ltb _ _ h)
+digit-some b = go (ltb (digit b) 16) refl
+  where
+    go : (t : Bool) → ltb (digit b) 16 ≡ t → is_some (cond t (Some (digit b)) None) ≡ true → digit b < 16
+    go true h e = ltb-true _ _ h
+    go false h e = cc
 
-pub digit-none : (b v : ℕ) → v ≡ digit b → 16 ≤ v → Not ≡ digit_of b
+pub digit-none : (b : ℕ) → is_some (digit_of b) ≡ false → 16 ≤ digit b
 unfolding digit_of
-digit-none b v e h = rw (← e, le-ltb _ _ h)
-
-from : (t : Bool) (b v : ℕ) → ltb (digit b) 16 ≡ t → choose t (Value (digit b)) Not ≡ Value v → digit b < 16
-from true b v h e = ltb-true _ _ h
-from false b v h e = absurd (let z : ◌≡◌ {A = ℕ} 0 1 = cc in omega arith)
-
-none : (t : Bool) (b : ℕ) → ltb (digit b) 16 ≡ t → choose t (Value (digit b)) Not ≡ Not → 16 ≤ digit b
-none true b h e = absurd (let z : ◌≡◌ {A = ℕ} 0 1 = cc in omega arith)
-none false b h e = ltb-false _ _ h
-
-pub digit_value : (d : Digit) (b v : ℕ) → d ≡ digit_of b → d ≡ Value v → digit b < 16
-unfolding digit_of
-digit_value d b v e f = from (ltb (digit b) 16) b v refl (sym e ∙ f)
-
-pub digit_not : (d : Digit) (b : ℕ) → d ≡ digit_of b → d ≡ Not → 16 ≤ digit b
-unfolding digit_of
-digit_not d b e f = none (ltb (digit b) 16) b refl (sym e ∙ f)
-
-pub ruleset mine = (rules, digit-is, digit-none)
+digit-none b = go (ltb (digit b) 16) refl
+  where
+    go : (t : Bool) → ltb (digit b) 16 ≡ t → is_some (cond t (Some (digit b)) None) ≡ false → 16 ≤ digit b
+    go true h e = cc
+    go false h e = ltb-false _ _ h

@@ -2,11 +2,10 @@
 --     Scan                              the bytes from where the line begins to before a place are digits
 --     scan-start, scan_step             it holds at first, and one digit later
 --     scan-stop, scan-done              a byte that is no digit, or the end of the text, ends the run
---     bad-near, bad-far                 the byte that refusal 1 names, and its stop at 65,535
 --     line-open, line_other, line-none, line-odd   the ways in which a line is refused by 1
 --     line-ends                         a legible line
 -- Assumes nothing.
-use mathlib.Core.Bool.{Bool, true, false}
+use mathlib.Core.Bool.{Bool, true, false, not}
 use mathlib.Core.List.{List, [], ◌∷◌, ◌++◌, append_assoc}
 use mathlib.Core.Path.{◌≡◌, refl, sym, ap, ◌∙◌}
 use Prim.Native.Nat.{ℕ, suc, ◌+◌, ◌-◌, ◌%◌, ◌<◌, ◌≤◌, min}
@@ -17,16 +16,14 @@ use lib.ListN.{length, get_or, take, drop, length-drop, drop_of_length-le}
 use lib.Seq.{drop-cons, drop-drop, get_or-take, get_or-drop, length-take-le}
 use borrow.Author.Rules.{rules}
 use borrow.Author.Tests.{ne_eqb, eqb-true, eqb-false}
+use Rattle.std.specs.Prelude.{Option, Ok, Err, is_some}
 use Rattle.meaning.specs.Text as M
 use Rattle.meaning.specs.Text.{Line, lines_of, lines_from, digit, spot_or, non_digit, is_nowhere, legible, bad_byte, furthest}
 use Rattle.meaning.proofs.Logic.{and-false}
 use Rattle.text_lines.specs.Digits.{digit_of}
-use Rattle.text_lines.specs.Lines.{Digits, Run, Legible, Illegible, LineAt}
-use Rattle.text_lines.specs.declared.digits.Digit.{Digit}
-use Rattle.text_lines.specs.declared.digits.Digit.TheVariants.{Value, Not}
-use Rattle.text_lines.specs.declared.lines.Line as Answer
-use Rattle.text_lines.specs.declared.lines.Line.TheVariants.{Bad}
-use Rattle.text_lines.proofs.Hex.{digit_value, digit_not}
+use Rattle.text_lines.specs.Lines.{Digits, Run, Illegible, LineAt}
+use Rattle.text_lines.specs.declared.lines.Illegible as I
+use Rattle.text_lines.proofs.Hex.{digit-some, digit-none}
 use Rattle.text_lines.proofs.Breaks.{AllDigits, digits-on, feed-ends, from_cons, byte-begins, all-nowhere, fails-after}
 
 lt_of_le_ne : (k i : ℕ) → k ≤ i → (k ≡ i → ⊥) → k < i
@@ -41,19 +38,23 @@ module _ {text : List ℕ} {at : ℕ} where
   pub scan-start : at ≤ length text → Scan text at at
   scan-start h = record { from = omega arith; inside = h; digits = λ k a b. absurd (omega arith) }
 
-  pub scan_step : {i v : ℕ} (d : Digit) → Scan text at i → i < length text → d ≡ digit_of (get_or text i 0) → d ≡ Value v → Scan text at (i + 1)
-  scan_step {i} {v} d s h e f =
-      record { from = omega (arith, s.from); inside = omega arith; digits = λ k a b. go k a b (eqb k i) refl }
-    where
-      go : (k : ℕ) → at ≤ k → k < i + 1 → (t : Bool) → eqb k i ≡ t → digit (get_or text k 0) < 16
-      go k a b true g = rw (eqb-true k i g) (digit_value d (get_or text i 0) v e f)
-      go k a b false g = let n = eqb-false k i g in s.digits k a (lt_of_le_ne k i (omega arith) n)
+  module _ {i : ℕ} (o : Option ℕ) (none : Bool) (s : Scan text at i) (h : i < length text) (e : o ≡ digit_of (get_or text i 0)) (f : is_some o ≡ not none) where
+    pub scan_step : none ≡ false → Scan text at (i + 1)
+    scan_step n = record { from = omega (arith, s.from); inside = omega arith; digits = λ k a b. go k a b (eqb k i) refl }
+      where
+        go : (k : ℕ) → at ≤ k → k < i + 1 → (t : Bool) → eqb k i ≡ t → digit (get_or text k 0) < 16
+        go k a b true g = rw (eqb-true k i g) (digit-some (get_or text i 0) (ap is_some (sym e) ∙ f ∙ ap not n))
+        go k a b false g = let n = eqb-false k i g in s.digits k a (lt_of_le_ne k i (omega arith) n)
 
-  pub scan-stop : {i : ℕ} (d : Digit) → Scan text at i → i < length text → d ≡ digit_of (get_or text i 0) → d ≡ Not → Run text at i
-  scan-stop {i} d s h e f = record { from = s.from; inside = s.inside; digits = s.digits; stops = λ g. digit_not d (get_or text i 0) e f }
+    pub scan-stop : none ≡ true → Run text at i
+    scan-stop n =
+        record { from = s.from; inside = s.inside; digits = s.digits; stops = λ g. digit-none (get_or text i 0) (ap is_some (sym e) ∙ f ∙ ap not n) }
 
-  pub scan-done : {i : ℕ} → Scan text at i → length text ≤ i → Run text at i
-  scan-done s h = record { from = s.from; inside = s.inside; digits = s.digits; stops = λ g. absurd (omega arith) }
+  pub scan-done : {i : ℕ} → Scan text at i → length text ≤ i → Run text at (length text)
+  scan-done {i} s h =
+      let e : i ≡ length text = omega (arith, s.inside) in
+      let d : Digits text at (length text) = rw (← e) s.digits in
+      record { from = omega (arith, s.from); inside = omega arith; digits = d; stops = λ g. absurd (omega arith) }
 
 -- the bytes of a line
 abbrev pub part : List ℕ → ℕ → ℕ → List ℕ
@@ -110,12 +111,6 @@ after-spot : (l y : List ℕ) (b : ℕ) → AllDigits l → 16 ≤ digit b → n
 unfolding non_digit
 after-spot l y b d h = rw append_assoc (fails-after 0 l b y d h ∙ rw zero-add)
 
-pub bad-near : (n : ℕ) → n < 65535 → Bad n ≡ Bad (min furthest n)
-bad-near n h = ap Bad (omega arith)
-
-pub bad-far : (n : ℕ) → 65535 ≤ n → Bad 65535 ≡ Bad (min furthest n)
-bad-far n h = ap Bad (omega arith)
-
 module _ (text : List ℕ) (at end : ℕ) (r : Run text at end) where
   long : length (part text at end) ≡ end - at
   long = part_length text at end r.from r.inside
@@ -149,26 +144,37 @@ module _ (text : List ℕ) (at end : ℕ) (r : Run text at end) where
         byte = rw (f, i);
       }
 
-  module _ (l : Answer.Line) (e : l ≡ Bad (min furthest (end - at))) where
-    pub line-open : at < length text → length text ≤ end → LineAt text at l
-    line-open g h = rw e (open-line (part text at end) refl (lines-of ∙ rw (drop_of_length-le text h)) (omega (arith, long)))
+  open-end : at < length text → length text ≤ end → Illegible text at (min furthest (end - at))
+  open-end g h = open-line (part text at end) refl (lines-of ∙ rw (drop_of_length-le text h)) (omega (arith, long))
 
-    pub line_other : end < length text → (get_or text end 0 ≡ 10 → ⊥) → LineAt text at l
-    line_other h n =
-        rw e (other (get_or text end 0) (part text at end) (drop (suc end) text) long digits_in (r.stops h) n (lines-of ∙ rw (drop-cons text end 0 h)))
+  other-byte : end < length text → (get_or text end 0 ≡ 10 → ⊥) → Illegible text at (min furthest (end - at))
+  other-byte h n = other (get_or text end 0) (part text at end) (drop (suc end) text) long digits_in (r.stops h) n (lines-of ∙ rw (drop-cons text end 0 h))
 
   module _ (h : end < length text) (f : get_or text end 0 ≡ 10) where
     feed-lines : lines_of (drop at text) ≡ record { bytes = part text at end; ended = true } ∷ lines_of (drop (suc end) text)
     feed-lines = run-lines text at end r.from h r.digits f
 
-    pub line-none : (l : Answer.Line) → l ≡ Bad (min furthest (end - at)) → end - at ≡ 0 → LineAt text at l
-    line-none l i e = rw i record { line = _; later = _; lines = feed-lines; bad = not_some _ (long ∙ e); byte = stop-byte _ refl }
+    none : end - at ≡ 0 → Illegible text at (min furthest (end - at))
+    none e = record { line = _; later = _; lines = feed-lines; bad = not_some _ (long ∙ e); byte = stop-byte _ refl }
 
-    pub line-odd : (l : Answer.Line) → l ≡ Bad (min furthest (end - at)) → ((end - at) % 2 ≡ 0 → ⊥) → LineAt text at l
-    line-odd l i e =
-        rw i record { line = _; later = _; lines = feed-lines; bad = not-even _ (λ g. e (sym (ap (λ (n : ℕ). n % 2) long) ∙ g)); byte = stop-byte _ refl }
+    odd : ((end - at) % 2 ≡ 0 → ⊥) → Illegible text at (min furthest (end - at))
+    odd e =
+        record { line = _; later = _; lines = feed-lines; bad = not-even _ (λ g. e (sym (ap (λ (n : ℕ). n % 2) long) ∙ g)); byte = stop-byte _ refl }
 
-    pub line-ends : (end - at ≡ 0 → ⊥) → (end - at) % 2 ≡ 0 → Legible text at end
+    pub line-ends : (end - at ≡ 0 → ⊥) → (end - at) % 2 ≡ 0 → LineAt text at (Ok end)
     line-ends n e = record { from = omega (arith, r.from); inside = h; digits = r.digits; even = e; feed = f }
 
-pub ruleset mine = (rules, scan-start, scan_step, scan-stop, scan-done, bad-near, bad-far, line-open, line_other, line-none, line-odd, line-ends)
+  module _ (x : I.Illegible) (e : x ≡ record { byte = min furthest (end - at) }) where
+    pub line-open : at < length text → length text ≤ end → LineAt text at (Err x)
+    line-open g h = rw e (open-end g h)
+
+    pub line_other : end < length text → (get_or text end 0 ≡ 10 → ⊥) → LineAt text at (Err x)
+    line_other h n = rw e (other-byte h n)
+
+    pub line-none : end < length text → get_or text end 0 ≡ 10 → end - at ≡ 0 → LineAt text at (Err x)
+    line-none h f n = rw e (none h f n)
+
+    pub line-odd : end < length text → get_or text end 0 ≡ 10 → ((end - at) % 2 ≡ 0 → ⊥) → LineAt text at (Err x)
+    line-odd h f n = rw e (odd h f n)
+
+pub ruleset mine = (rules, scan-start, scan_step, scan-stop, scan-done, line-open, line_other, line-none, line-odd, line-ends)

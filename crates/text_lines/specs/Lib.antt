@@ -1,4 +1,4 @@
-pub mod Choice
+pub mod Given
 pub mod Digits
 pub mod Lines
 pub mod Entries

@@ -2,11 +2,10 @@
 --     Run, Legible, LineAt   where a run of digits ends; a legible line; what the search for a line's end answers
 --     value_at                the field whose first digit stands at a place
 -- Assumes nothing.
-use Rattle.std.specs.Prelude.{false, List, ◌∷◌, ◌≡◌, ℕ, ◌+◌, ◌-◌, ◌*◌, ◌%◌, ◌<◌, ◌≤◌, min, length, get_or, drop}
+use Rattle.std.specs.Prelude.{false, Result, Ok, Err, List, ◌∷◌, ◌≡◌, ℕ, ◌+◌, ◌-◌, ◌*◌, ◌%◌, ◌<◌, ◌≤◌, min, length, get_or, drop}
 use Rattle.meaning.specs.Text as T
 use Rattle.meaning.specs.Text.{digit, lines_of, legible, bad_byte, furthest}
-use Rattle.text_lines.specs.declared.lines.Line.{Line}
-use Rattle.text_lines.specs.declared.lines.Line.TheVariants.{Ends, Bad}
+use Rattle.text_lines.specs.declared.lines.Illegible as I
 
 -- the bytes from one place to before another are digits
 abbrev pub Digits : List ℕ → ℕ → ℕ → Type 0
@@ -33,9 +32,9 @@ pub record Illegible (text : List ℕ) (at offset : ℕ) : Type 0 where
   pub bad : legible line ≡ false
   pub byte : min furthest (bad_byte line) ≡ offset
 
-abbrev pub LineAt : List ℕ → ℕ → Line → Type 0
-LineAt text at (Ends end) = Legible text at end
-LineAt text at (Bad o) = Illegible text at o
+abbrev pub LineAt : List ℕ → ℕ → Result ℕ I.Illegible → Type 0
+LineAt text at (Ok end) = Legible text at end
+LineAt text at (Err e) = Illegible text at e.byte
 
 unfoldable pub value_at : List ℕ → ℕ → ℕ
 value_at text at = digit (get_or text at 0) * 16 + digit (get_or text (at + 1) 0)

@@ -3,37 +3,24 @@ ghost use Rattle.std.specs.Prelude.{◌≡◌};
 ghost use Rattle.meaning.specs.Text.{digit};
 ghost use Rattle.text_lines.specs.Digits.{digit_of};
 
-#[derive(Clone, Copy)]
-pub enum Digit {
-    Value(u8),
-    Not,
-}
-
-// What stands for the value of a byte that is no digit.
+// What stands for the value of a byte that is no digit: `digit` of meaning/specs/Text says so.
 const NO_DIGIT: u8 = 255;
 
-// The value of a digit, and that for any other byte.
+// The value of a digit.
+#[tactic(auto, using(crate::proofs::Formula::ways))]
+pub(crate) fn digit_of(b: u8) -> Option<u8>
+    ensures { result ≡ digit_of b }
+{
+    match b {
+        b'0'..=b'9' => Some(b - b'0'),
+        b'A'..=b'F' => Some(b - b'A' + 10),
+        _ => None,
+    }
+}
+
+// The value of a digit, and 255 for any other byte.
 pub fn value(b: u8) -> u8
     ensures { result ≡ digit b }
 {
-    if b < 48 {
-        return NO_DIGIT;
-    }
-    if b <= 57 {
-        return b - 48;
-    }
-    if b < 65 {
-        return NO_DIGIT;
-    }
-    if b <= 70 {
-        return b - 55;
-    }
-    NO_DIGIT
-}
-
-pub(crate) fn digit_of(b: u8) -> Digit
-    ensures { result ≡ digit_of b }
-{
-    let v = value(b);
-    if v < 16 { Digit::Value(v) } else { Digit::Not }
+    digit_of(b).unwrap_or(NO_DIGIT)
 }

@@ -3,14 +3,12 @@ ghost use Rattle.std.specs.Prelude.{◌≡◌, ◌≤◌, ◌<◌, ◌+◌, min,
 ghost use Rattle.meaning.specs.Text.{furthest};
 ghost use Rattle.text_lines.specs.Lines.{Run, LineAt, value_at};
 
-use super::digits::{Digit, digit_of, value};
-use casts::u16_of_u8;
+use super::digits::{digit_of, value};
 
-// Where a legible line has its line feed; or the byte that refusal 1 names, counted from where the line begins.
-#[derive(Clone, Copy)]
-pub enum Line {
-    Ends(usize),
-    Bad(u16),
+// A line that refusal 1 is for: the byte that it names, counted from where the line begins.
+#[derive(Clone, Copy, Debug, PartialEq, Eq)]
+pub struct Illegible {
+    pub byte: u16,
 }
 
 // The furthest byte that a refusal names.
@@ -21,44 +19,37 @@ pub(crate) fn digits_end(text: &[u8], at: usize) -> usize
     requires { at ≤ length text.now }
     ensures run { Run text.now at result }
 {
-    let mut i = at;
-    while i < text.len() {
-        let Digit::Value(_) = digit_of(text[i]) else {
+    for i in at..text.len() {
+        if digit_of(text[i]).is_none() {
             return i;
-        };
-        i += 1;
+        }
     }
-    i
+    text.len()
 }
 
-// A line that is refused by 1 after n digits.
-fn bad(n: usize) -> Line
-    ensures { result ≡ Line.Bad (min furthest n) }
-{
-    if n < FURTHEST {
-        Line::Bad(n as u16)
-    } else {
-        Line::Bad(FURTHEST as u16)
+impl Illegible {
+    // A line that is refused after n digits.
+    fn after(n: usize) -> Self
+        ensures { result ≡ record { byte = min furthest n } }
+    {
+        Illegible {
+            byte: FURTHEST.min(n) as u16,
+        }
     }
 }
 
 // Where the line that begins at a place has its line feed.
-pub fn line_at(text: &[u8], at: usize) -> Line
+pub fn line_at(text: &[u8], at: usize) -> Result<usize, Illegible>
     requires { at < length text.now }
     ensures line { LineAt text.now at result }
 {
     let end = digits_end(text, at);
     let n = end - at;
-    if text.len() <= end {
-        return bad(n);
+    if end < text.len() && text[end] == b'\n' && n != 0 && n % 2 == 0 {
+        Ok(end)
+    } else {
+        Err(Illegible::after(n))
     }
-    if text[end] != 10 {
-        return bad(n);
-    }
-    if n == 0 {
-        return bad(n);
-    }
-    if n % 2 == 0 { Line::Ends(end) } else { bad(n) }
 }
 
 // The field whose first digit stands at a place.
@@ -66,7 +57,7 @@ pub fn field(text: &[u8], at: usize) -> u16
     requires { at + 1 < length text.now }
     ensures { result ≡ value_at text.now at }
 {
-    let high = u16_of_u8(value(text[at]));
-    let low = u16_of_u8(value(text[at + 1]));
+    let high = u16::from(value(text[at]));
+    let low = u16::from(value(text[at + 1]));
     high * 16 + low
 }

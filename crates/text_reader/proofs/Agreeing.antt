@@ -1,10 +1,10 @@
 -- Counting the clashes of a symbol decides refusal 7.
---     clash-other .. clash-count      one symbol
+--     clash-other, clash-same         one symbol
 --     Counted, count-start ..         the count, one more at a time
 --     used_start, used-row, used-symbol   what is noted serves after a line with a symbol
 --     used-same                       and after any other line
 -- Assumes nothing.
-use mathlib.Core.Bool.{Bool, true, false, not, ◌&&◌, ◌||◌}
+use mathlib.Core.Bool.{Bool, true, false, not, ◌&&◌, ◌||◌, cond}
 use mathlib.Core.List.{List, [], ◌∷◌, ◌++◌}
 use mathlib.Core.Path.{◌≡◌, refl, sym, ap, ◌∙◌}
 use Prim.Native.Nat.{ℕ, zero, suc, ◌+◌, ◌≤◌, ◌<◌}
@@ -14,33 +14,32 @@ use lib.Dec.{eqb}
 use lib.ListN.{length, get_or, set}
 use lib.Seq.{get_or-set_same, get_or-set_other}
 use mir.Syntax.{w64}
-use mir.Val.{Fits}
+use mir.Val.{Fits, bool_byte}
 use borrow.Author.Rules.{rules}
 use borrow.Author.Tests.{ne_eqb, eq-eqb, eqb-true, eqb-false}
 use Rattle.meaning.specs.Context.{Row}
 use Rattle.meaning.specs.Rules.{Pattern, variable, apply}
 use Rattle.meaning.specs.Text.{Read, nothing_read, row, pattern, put, put_context, put_clause, rows_of, patterns_of, rows_agree, patterns_agree, counts_agree}
-use Rattle.text_lines.specs.Choice.{choose}
 use Rattle.text_reader.specs.Agree.{clash_of, clashes_in, Noted, Used}
 
-module _ (g m f k : ℕ) where
-  pub clash-other : (g ≡ f → ⊥) → 0 ≡ clash_of g m f k
+module _ (g m f k c : ℕ) (b : Bool) (e : c ≡ bool_byte b) where
+  pub clash-other : (g ≡ f → ⊥) → b ≡ eqb g f → c ≡ clash_of g m f k
   unfolding clash_of
-  clash-other h = rw (ne_eqb _ _ h)
+  clash-other h i = rw (e, i, ne_eqb _ _ h)
 
-  pub clash-same : g ≡ f → m ≡ k → 0 ≡ clash_of g m f k
+  pub clash-same : g ≡ f → b ≡ not (eqb m k) → c ≡ clash_of g m f k
   unfolding clash_of
-  clash-same h e = rw (eq-eqb _ _ h, eq-eqb _ _ e)
-
-  pub clash-count : g ≡ f → (m ≡ k → ⊥) → 1 ≡ clash_of g m f k
-  unfolding clash_of
-  clash-count h e = rw (eq-eqb _ _ h, ne_eqb _ _ e)
+  clash-same h i = rw (e, i, eq-eqb _ _ h) (go (eqb m k))
+    where
+      go : (t : Bool) → bool_byte (not t) ≡ cond t 0 1
+      go true = refl
+      go false = refl
 
 clash-small : (g m f k : ℕ) → clash_of g m f k ≤ 1
 unfolding clash_of
 clash-small g m f k = go (eqb g f) (eqb m k)
   where
-    go : (s t : Bool) → choose s (choose t 0 1) 0 ≤ 1
+    go : (s t : Bool) → cond s (cond t 0 1) 0 ≤ 1
     go true true = omega arith
     go true false = omega arith
     go false t = omega arith
@@ -86,7 +85,7 @@ clash-none : (g m f k : ℕ) → eqb (clash_of g m f k) 0 ≡ not (eqb g f) || e
 unfolding clash_of
 clash-none g m f k = go (eqb g f) (eqb m k)
   where
-    go : (s t : Bool) → eqb (choose s (choose t 0 1) 0) 0 ≡ not s || t
+    go : (s t : Bool) → eqb (cond s (cond t 0 1) 0) 0 ≡ not s || t
     go true true = refl
     go true false = refl
     go false t = refl
@@ -182,4 +181,4 @@ module _ (symbols counts : List ℕ) (n : ℕ) (s : Read) (u : Used symbols coun
   used-variable v =
       record { agree = λ f k. u.agree f k ∙ sym (rw (patterns-snoc f k (patterns_of s) (variable v), and-true (patterns_agree f k (patterns_of s)))) }
 
-pub ruleset mine = (rules, clash-other, clash-same, clash-count, count-start, count-step, count-fit, count-done)
+pub ruleset mine = (rules, clash-other, clash-same, count-start, count-step, count-fit, count-done)

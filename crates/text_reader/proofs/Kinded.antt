@@ -4,7 +4,7 @@
 --     sized_row .. sized-unequal     a line has its kind's length, or has not
 --     kind-first                     the first field of a legible line
 -- Assumes nothing.
-use mathlib.Core.Bool.{Bool, true, false}
+use mathlib.Core.Bool.{Bool, true, false, cond}
 use mathlib.Core.List.{List}
 use mathlib.Core.Path.{◌≡◌, refl, ◌∙◌}
 use Prim.Native.Nat.{ℕ, ◌+◌, ◌-◌, ◌*◌, ◌/◌, ◌%◌, ◌<◌, ◌≤◌}
@@ -14,71 +14,68 @@ use lib.Dec.{eqb, ltb}
 use lib.ListN.{length}
 use borrow.Author.Rules.{rules}
 use borrow.Author.Tests.{lt-ltb, le-ltb, ltb-true, ltb-false, eq-eqb, ne_eqb, eqb-true, eqb-false}
+use Rattle.std.specs.Prelude.{Option, Some, None}
 use Rattle.meaning.specs.Text as M
 use Rattle.meaning.specs.Text.{context_row, equation, difference, variable_pattern, symbol_pattern, equal_literal, unequal_literal, field_at, is_listed, listed_as, sized, size_of}
-use Rattle.text_lines.specs.Choice.{choose}
 use Rattle.text_lines.specs.Lines.{Legible, value_at}
 use Rattle.text_lines.proofs.Fields.{fields-count, field-at}
 use Rattle.text_reader.specs.Kinds.{Looked, fields_at, fixed_size, term_size, LongBy, SizeIs, meant_kind}
 use Rattle.text_reader.specs.declared.kinds.Kind.{Kind}
 use Rattle.text_reader.specs.declared.kinds.Kind.TheVariants.{ContextRow, Equation, Difference, VariablePattern, SymbolPattern, EqualLiteral, UnequalLiteral}
-use Rattle.text_reader.specs.declared.kinds.Listed.TheVariants as L
-use Rattle.text_reader.specs.declared.kinds.Sized.{Sized}
-use Rattle.text_reader.specs.declared.kinds.Sized.TheVariants as S
 
 -- ---- the number of a kind
 module _ (n : ℕ) where
-  pub looked-row : n ≡ 1 → Looked n (L.Is ContextRow)
+  pub looked-row : n ≡ 1 → Looked n (Some ContextRow)
   unfolding is_listed listed_as
   looked-row e = rw e (refl, refl)
 
-  pub looked-equation : n ≡ 2 → Looked n (L.Is Equation)
+  pub looked-equation : n ≡ 2 → Looked n (Some Equation)
   unfolding is_listed listed_as
   looked-equation e = rw e (refl, refl)
 
-  pub looked-difference : n ≡ 3 → Looked n (L.Is Difference)
+  pub looked-difference : n ≡ 3 → Looked n (Some Difference)
   unfolding is_listed listed_as
   looked-difference e = rw e (refl, refl)
 
-  pub looked-variable : n ≡ 4 → Looked n (L.Is VariablePattern)
+  pub looked-variable : n ≡ 4 → Looked n (Some VariablePattern)
   unfolding is_listed listed_as
   looked-variable e = rw e (refl, refl)
 
-  pub looked-symbol : n ≡ 5 → Looked n (L.Is SymbolPattern)
+  pub looked-symbol : n ≡ 5 → Looked n (Some SymbolPattern)
   unfolding is_listed listed_as
   looked-symbol e = rw e (refl, refl)
 
-  pub looked-equal : n ≡ 6 → Looked n (L.Is EqualLiteral)
+  pub looked-equal : n ≡ 6 → Looked n (Some EqualLiteral)
   unfolding is_listed listed_as
   looked-equal e = rw e (refl, refl)
 
-  pub looked-unequal : n ≡ 7 → Looked n (L.Is UnequalLiteral)
+  pub looked-unequal : n ≡ 7 → Looked n (Some UnequalLiteral)
   unfolding is_listed listed_as
   looked-unequal e = rw e (refl, refl)
 
-  pub looked-none : (n ≡ 1 → ⊥) → (n ≡ 2 → ⊥) → (n ≡ 3 → ⊥) → (n ≡ 4 → ⊥) → (n ≡ 5 → ⊥) → (n ≡ 6 → ⊥) → (n ≡ 7 → ⊥) → Looked n L.Unlisted
+  pub looked-none : (n ≡ 1 → ⊥) → (n ≡ 2 → ⊥) → (n ≡ 3 → ⊥) → (n ≡ 4 → ⊥) → (n ≡ 5 → ⊥) → (n ≡ 6 → ⊥) → (n ≡ 7 → ⊥) → Looked n None
   unfolding is_listed
   looked-none a b c d e f g = rw (ne_eqb n 1 a, ne_eqb n 2 b, ne_eqb n 3 c, ne_eqb n 4 d, ne_eqb n 5 e, ne_eqb n 6 f, ne_eqb n 7 g)
 
 -- ---- the length of a kind
-pub fixed-is : (long digits : ℕ) → long ≡ digits → S.Is 0 ≡ fixed_size long digits
+pub fixed-is : (long digits : ℕ) → long ≡ digits → Some 0 ≡ fixed_size long digits
 unfolding fixed_size
 fixed-is long digits h = rw (eq-eqb _ _ h)
 
-pub fixed-not : (long digits : ℕ) → (long ≡ digits → ⊥) → S.Not ≡ fixed_size long digits
+pub fixed-not : (long digits : ℕ) → (long ≡ digits → ⊥) → ◌≡◌ {A = Option ℕ} None (fixed_size long digits)
 unfolding fixed_size
 fixed-not long digits h = rw (ne_eqb _ _ h)
 
 module _ (text : List ℕ) (at end : ℕ) where
-  pub size-short : end - at < 8 → S.Not ≡ term_size text at end
+  pub size-short : end - at < 8 → ◌≡◌ {A = Option ℕ} None (term_size text at end)
   unfolding term_size
   size-short h = rw (lt-ltb _ _ h)
 
-  pub size_is : (v w : ℕ) → 8 ≤ end - at → v ≡ value_at text (at + 6) → w ≡ v → end - at ≡ 8 + w * 2 → S.Is v ≡ term_size text at end
+  pub size_is : (v w : ℕ) → 8 ≤ end - at → v ≡ value_at text (at + 6) → w ≡ v → end - at ≡ 8 + w * 2 → Some v ≡ term_size text at end
   unfolding term_size
   size_is v w h e i d = rw (le-ltb _ _ h, ← e, ← i, eq-eqb _ _ d)
 
-  pub size-not : (v w : ℕ) → 8 ≤ end - at → v ≡ value_at text (at + 6) → w ≡ v → (end - at ≡ 8 + w * 2 → ⊥) → S.Not ≡ term_size text at end
+  pub size-not : (v w : ℕ) → 8 ≤ end - at → v ≡ value_at text (at + 6) → w ≡ v → (end - at ≡ 8 + w * 2 → ⊥) → ◌≡◌ {A = Option ℕ} None (term_size text at end)
   unfolding term_size
   size-not v w h e i d = rw (le-ltb _ _ h, ← e, ← i, ne_eqb _ _ d)
 
@@ -107,7 +104,7 @@ module _ (text : List ℕ) (at end : ℕ) (g : Legible text at end) where
       size-eq : eqb (length (fields_at text at end)) (size_of k (fields_at text at end)) ≡ eqb (end - at) (n * 2)
       size-eq = rw e (sized-by n)
 
-      go : (t : Bool) → eqb (end - at) (n * 2) ≡ t → SizeIs text at end k (choose (eqb (end - at) (n * 2)) (S.Is 0) S.Not)
+      go : (t : Bool) → eqb (end - at) (n * 2) ≡ t → SizeIs text at end k (cond (eqb (end - at) (n * 2)) (Some 0) None)
       go true f = rw f (size-eq ∙ f, l (eqb-true _ _ f))
       go false f = rw f (size-eq ∙ f)
 
@@ -129,16 +126,16 @@ module _ (text : List ℕ) (at end : ℕ) (g : Legible text at end) where
           rw (e, field-at text at end g 3 (omega arith), ← i) (sized-by (4 + value_at text (at + 6)))
 
       by : (t : Bool) → eqb (end - at) (8 + value_at text (at + 6) * 2) ≡ t → ltb (end - at) 8 ≡ false
-          → SizeIs text at end k (choose t (S.Is (value_at text (at + 6))) S.Not)
+          → SizeIs text at end k (cond t (Some (value_at text (at + 6))) None)
       by true i f = (long f ∙ i, l (value_at text (at + 6)) (eqb-true _ _ i))
       by false i f = long f ∙ i
 
       go : (t : Bool) → ltb (end - at) 8 ≡ t
-          → SizeIs text at end k (choose t S.Not (choose (eqb (end - at) (8 + value_at text (at + 6) * 2)) (S.Is (value_at text (at + 6))) S.Not))
+          → SizeIs text at end k (cond t None (cond (eqb (end - at) (8 + value_at text (at + 6) * 2)) (Some (value_at text (at + 6))) None))
       go true f = short f
       go false f = by (eqb (end - at) (8 + value_at text (at + 6) * 2)) refl f
 
-  module _ (kind : Kind) (r : Sized) where
+  module _ (kind : Kind) (r : Option ℕ) where
     pub sized_row : kind ≡ ContextRow → r ≡ term_size text at end → SizeIs text at end (meant_kind kind) r
     unfolding size_of
     sized_row k e = rw (k, e) (by_count context_row refl (λ c d. d))

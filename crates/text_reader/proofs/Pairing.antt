@@ -4,30 +4,32 @@
 --     spot-small       where the first of some rows fails
 --     pair-verdict     they do
 -- Assumes nothing.
-use mathlib.Core.Bool.{Bool, true, false}
+use mathlib.Core.Bool.{Bool, true, false, cond}
 use mathlib.Core.List.{List, [], ◌∷◌}
 use mathlib.Core.Path.{◌≡◌, refl, ◌∙◌}
 use Prim.Native.Nat.{ℕ, suc, ◌+◌, ◌-◌, ◌*◌, ◌≤◌}
 use native.Mathlib.Omega.{arith}
 use lib.Dec.{ltb}
 use lib.ListN.{length}
+use Rattle.std.specs.Prelude.{Result, Ok, Err}
 use Rattle.meaning.specs.Text as M
 use Rattle.meaning.specs.Text.{Kind, Entry, Read, narrow, field_at, entry_of, known, sized, ranked, refers, no_row, named_by, table_of, agrees, Spot, first_failing, is_nowhere, spot_or, names_from, bad_field, offset_of, tests_of, first_fault}
-use Rattle.text_lines.specs.Choice.{choose}
+use Rattle.text_lines.specs.Given.{given}
 use Rattle.text_lines.specs.Lines.{Legible}
-use Rattle.text_lines.specs.Entries.{found_in, pair_by}
-use Rattle.text_lines.specs.declared.entries.Paired.{Paired}
-use Rattle.text_lines.specs.declared.entries.Paired.TheVariants.{Is, Refused}
+use Rattle.text_lines.specs.declared.entries.Pair.{Pair}
 use Rattle.text_lines.proofs.Fields.{field-at}
-use Rattle.text_reader.specs.Entries.{pair_in}
+use Rattle.text_reader.specs.Entries.{pair_in, row_of}
+use Rattle.text_reader.specs.Faults.{number_of, byte_of}
 use Rattle.text_reader.specs.Kinds.{fields_at}
 use Rattle.text_reader.specs.Lines.{kind_in, entry_in, fault_in, offset_for, Stopped}
+use Rattle.text_reader.specs.declared.faults.Fault.{Fault}
+use Rattle.text_reader.specs.declared.faults.Fault.TheVariants.{NoRoom}
 use Rattle.text_reader.proofs.Turn.{offset-first, legible-line}
 
 -- with the fields p and q
-abbrev pub PairVerdict : ℕ → ℕ → Paired → ℕ → (ℕ → ℕ) → Type 0
-PairVerdict p q (Is e) m offset = (m ≡ 0) × (e.left ≡ p) × (e.right ≡ q)
-PairVerdict p q (Refused x o) m offset = Stopped m offset x o
+abbrev pub PairVerdict : ℕ → ℕ → Result Pair Fault → ℕ → (ℕ → ℕ) → Type 0
+PairVerdict p q (Ok e) m offset = (m ≡ 0) × (e.left ≡ p) × (e.right ≡ q)
+PairVerdict p q (Err f) m offset = Stopped m offset (number_of f) (byte_of f)
 
 abbrev pub missing : ℕ → List ℕ → Spot
 missing n l = first_failing (λ r. ltb r n) 0 l
@@ -44,8 +46,8 @@ spot-small test i (a ∷ l) = go (test a) refl (spot-small test (suc i) l)
     go true e h = rw (e, first_failing) (omega arith)
     go false e h = rw (e, first_failing) (omega arith)
 
-abbrev found : ℕ → ℕ → ℕ → Paired
-found n p q = pair_by 2 (found_in n p) (λ x. pair_by 4 (found_in n q) (λ y. Is (record { left = x; right = y })))
+abbrev found : ℕ → ℕ → ℕ → Result Pair Fault
+found n p q = given (row_of 2 n p) (λ x. given (row_of 4 n q) (λ y. Ok (record { left = x; right = y })))
 
 module _ (n p q : ℕ) (offset : ℕ → ℕ) (six : offset 6 ≡ (1 + spot_or 0 (missing n (p ∷ q ∷ []))) * 2) where
   abbrev Both : Type 0
@@ -61,7 +63,7 @@ module _ (n p q : ℕ) (offset : ℕ → ℕ) (six : offset 6 ≡ (1 + spot_or 0
       go false e b f = let s : offset 6 ≡ 2 = six ∙ rw (e, first_failing) in rw (e, first_failing) record { number = refl; byte = s; some = omega arith }
 
   roomed : (room : Bool) → offset 5 ≡ 0
-      → PairVerdict p q (choose room (found n p q) (Refused 5 0)) (first_fault 1 (true ∷ true ∷ true ∷ true ∷ room ∷ all_in n (p ∷ q ∷ []) ∷ true ∷ [])) offset
+      → PairVerdict p q (cond room (found n p q) (Err NoRoom)) (first_fault 1 (true ∷ true ∷ true ∷ true ∷ room ∷ all_in n (p ∷ q ∷ []) ∷ true ∷ [])) offset
   unfolding first_fault
   roomed true five = both
   roomed false five = record { number = refl; byte = five; some = omega arith }

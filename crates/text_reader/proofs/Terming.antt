@@ -3,7 +3,7 @@
 --     gated                  an answer, after the test of refusal 7
 --     term-verdict           they do
 -- Assumes nothing.
-use mathlib.Core.Bool.{Bool, true, false, ◌&&◌}
+use mathlib.Core.Bool.{Bool, true, false, ◌&&◌, cond}
 use mathlib.Core.List.{List, [], ◌∷◌}
 use mathlib.Core.Path.{◌≡◌, refl, sym, ◌∙◌}
 use Prim.Native.Nat.{ℕ, zero, suc, ◌+◌, ◌-◌, ◌*◌, ◌<◌, ◌≤◌}
@@ -13,25 +13,25 @@ use lib.Dec.{eqb, ltb, leb}
 use lib.ListN.{length, get_or, drop, length-append, length-replicate, length-drop}
 use lib.Seq.{get_or-drop}
 use borrow.Author.Tests.{ltb-true, ltb-false, le-leb, lt-leb}
+use Rattle.std.specs.Prelude.{Result, Ok, Err}
 use Rattle.meaning.specs.Text as M
 use Rattle.meaning.specs.Text.{Kind, Entry, Read, narrow, symbol_in, entry_of, known, sized, ranked, refers, no_row, named_by, table_of, agrees, Spot, nowhere, first_failing, is_nowhere, spot_or, names_from, bad_field, offset_of, tests_of, first_fault}
 use Rattle.meaning.specs.Columns.{pad}
-use Rattle.text_lines.specs.Choice.{choose}
+use Rattle.text_lines.specs.Given.{given}
 use Rattle.text_lines.specs.Lines.{Legible, value_at}
-use Rattle.text_lines.specs.Entries.{found_in, argument_of, symbol_at, term_by, term_from}
+use Rattle.text_lines.specs.Entries.{row_from, argument_of, symbol_at, term_from}
+use Rattle.text_lines.specs.declared.entries.NoRow.{NoRow}
 use Rattle.text_lines.specs.declared.entries.Term.{Term}
-use Rattle.text_lines.specs.declared.entries.Termed.{Termed}
-use Rattle.text_lines.specs.declared.entries.Termed.TheVariants.{Is, Refused}
 use Rattle.text_lines.proofs.Fields.{fields-count, field-at}
 use Rattle.text_reader.specs.Agree.{clashes_in}
-use Rattle.text_reader.specs.Entries.{agreeing, term_in}
+use Rattle.text_reader.specs.Entries.{rows_named, agreeing, term_in}
+use Rattle.text_reader.specs.Faults.{number_of, byte_of}
 use Rattle.text_reader.specs.Kinds.{fields_at}
 use Rattle.text_reader.specs.Lines.{kind_in, entry_in, fault_in, offset_for, Stopped}
+use Rattle.text_reader.specs.declared.faults.Fault.{Fault}
+use Rattle.text_reader.specs.declared.faults.Fault.TheVariants.{NoRoom, OtherCount}
 use Rattle.text_reader.proofs.Pairing.{missing, all_in, spot-small}
 use Rattle.text_reader.proofs.Turn.{offset-first, stopped-first, legible-line}
-
-abbrev four : ℕ → ℕ → ℕ → ℕ → List ℕ
-four p q r s = p ∷ q ∷ r ∷ s ∷ []
 
 pad-length : (n : ℕ) (l : List ℕ) → length l ≤ n → length (pad n l) ≡ n
 unfolding pad
@@ -41,25 +41,26 @@ pad-length n l h = simp (length-append, length-replicate) (omega arith)
 pub record TermIs (f : ℕ) (a : List ℕ) (t : Term) : Type 0 where
   pub head : t.head ≡ f
   pub count : t.count ≡ length a
-  pub args : pad 4 a ≡ four t.a t.b t.c t.d
+  pub args : pad 4 a ≡ t.places
+  pub long : length t.places ≡ 4
 
-abbrev pub TermVerdict : ℕ → List ℕ → Termed → ℕ → (ℕ → ℕ) → Type 0
-TermVerdict f a (Is t) m offset = (m ≡ 0) × TermIs f a t
-TermVerdict f a (Refused x o) m offset = Stopped m offset x o
+abbrev pub TermVerdict : ℕ → List ℕ → Result Term Fault → ℕ → (ℕ → ℕ) → Type 0
+TermVerdict f a (Ok t) m offset = (m ≡ 0) × TermIs f a t
+TermVerdict f a (Err x) m offset = Stopped m offset (number_of x) (byte_of x)
 
-abbrev pub gated : (ℕ → ℕ → Bool) → Termed → Termed
-gated agree (Is t) = choose (agree t.head t.count) (Is t) (Refused 7 0)
-gated agree (Refused x o) = Refused x o
+abbrev pub gated : (ℕ → ℕ → Bool) → Result Term Fault → Result Term Fault
+gated agree (Ok t) = cond (agree t.head t.count) (Ok t) (Err OtherCount)
+gated agree (Err x) = Err x
 
-agree-gated : (clashes : ℕ → ℕ → ℕ) (agree : ℕ → ℕ → Bool) → ((f k : ℕ) → eqb (clashes f k) 0 ≡ agree f k) → (t : Termed) → agreeing clashes t ≡ gated agree t
-agree-gated clashes agree h (Is t) = rw (h t.head t.count)
-agree-gated clashes agree h (Refused x o) = refl
+agree-gated : (clashes : ℕ → ℕ → ℕ) (agree : ℕ → ℕ → Bool) → ((f k : ℕ) → eqb (clashes f k) 0 ≡ agree f k) → (t : Result Term Fault) → agreeing clashes t ≡ gated agree t
+agree-gated clashes agree h (Ok t) = rw (h t.head t.count)
+agree-gated clashes agree h (Err x) = refl
 
 -- at most d rows, one after the other from argument i on, and then zeros
-collect : ℕ → ℕ → List ℕ → ℕ → (List ℕ → Termed) → Termed
+collect : ℕ → ℕ → List ℕ → ℕ → (List ℕ → Result Term NoRow) → Result Term NoRow
 collect zero i a n next = next []
 collect (suc d) i [] n next = collect d i [] n (λ l. next (0 ∷ l))
-collect (suc d) i (p ∷ a) n next = term_by ((4 + i) * 2) (found_in n p) (λ v. collect d (suc i) a n (λ l. next (v ∷ l)))
+collect (suc d) i (p ∷ a) n next = given (row_from ((4 + i) * 2) n p) (λ v. collect d (suc i) a n (λ l. next (v ∷ l)))
 
 pad-nil : (d : ℕ) → pad (suc d) [] ≡ 0 ∷ pad d []
 unfolding pad
@@ -70,10 +71,10 @@ unfolding pad
 pad-cons d p a = rw suc-sub-suc
 
 -- all of them are there, or the first that is missing is refused
-reached : Spot → Termed → Termed
-reached z t = choose (is_nowhere z) t (Refused 6 ((4 + spot_or 0 z) * 2))
+reached : Spot → Result Term NoRow → Result Term NoRow
+reached z t = cond (is_nowhere z) t (Err (record { byte = (4 + spot_or 0 z) * 2 }))
 
-collect-all : (d i : ℕ) (a : List ℕ) (n : ℕ) (next : List ℕ → Termed) → length a ≤ d
+collect-all : (d i : ℕ) (a : List ℕ) (n : ℕ) (next : List ℕ → Result Term NoRow) → length a ≤ d
     → collect d i a n next ≡ reached (first_failing (λ r. ltb r n) i a) (next (pad d a))
 unfolding first_failing is_nowhere spot_or pad collect reached
 collect-all zero i [] n next h = refl
@@ -88,11 +89,11 @@ collect-all (suc d) i (p ∷ a) n next h = go (ltb p n) refl (collect-all d (suc
     go false e r = rw (e, first_failing)
 
 abbrev placed : ℕ → ℕ → List ℕ → Term
-placed f n l = record { head = f; count = n; a = get_or l 0 0; b = get_or l 1 0; c = get_or l 2 0; d = get_or l 3 0 }
+placed f n l = record { head = f; count = n; places = l }
 
 module _ (text : List ℕ) (at n : ℕ) where
   term-collect : (a : List ℕ) → length a ≤ 4 → ((k : ℕ) → k < length a → value_at text (at + 8 + k * 2) ≡ get_or a k 0)
-      → term_from text at (length a) n ≡ collect 4 0 a n (λ l. Is (placed (symbol_at text (at + 2)) (length a) l))
+      → term_from text at (length a) n ≡ collect 4 0 a n (λ l. Ok (placed (symbol_at text (at + 2)) (length a) l))
   unfolding term_from argument_of collect
   term-collect [] h v = refl
   term-collect (p ∷ []) h v = rw (v 0 (omega arith))
@@ -101,24 +102,16 @@ module _ (text : List ℕ) (at n : ℕ) where
   term-collect (p ∷ q ∷ r ∷ s ∷ []) h v = rw (v 0 (omega arith), v 1 (omega arith), v 2 (omega arith), v 3 (omega arith))
   term-collect (p ∷ q ∷ r ∷ s ∷ t ∷ a) h v = absurd (omega arith)
 
-four-of : (l : List ℕ) → length l ≡ 4 → l ≡ four (get_or l 0 0) (get_or l 1 0) (get_or l 2 0) (get_or l 3 0)
-four-of [] h = absurd (omega arith)
-four-of (p ∷ []) h = absurd (omega arith)
-four-of (p ∷ q ∷ []) h = absurd (omega arith)
-four-of (p ∷ q ∷ r ∷ []) h = absurd (omega arith)
-four-of (p ∷ q ∷ r ∷ s ∷ []) h = refl
-four-of (p ∷ q ∷ r ∷ s ∷ t ∷ a) h = absurd (omega arith)
-
 module _ (f : ℕ) (a : List ℕ) (agree : ℕ → ℕ → Bool) (few : length a ≤ 4) where
   named-verdict : (z : Spot) (offset : ℕ → ℕ) → offset 6 ≡ (4 + spot_or 0 z) * 2 → offset 7 ≡ 0
-      → TermVerdict f a (gated agree (reached z (Is (placed f (length a) (pad 4 a)))))
+      → TermVerdict f a (gated agree (rows_named (reached z (Ok (placed f (length a) (pad 4 a))))))
       (first_fault 1 (true ∷ true ∷ true ∷ true ∷ true ∷ is_nowhere z ∷ agree f (length a) ∷ [])) offset
   unfolding first_fault is_nowhere reached
   named-verdict nowhere offset six seven = go (agree f (length a)) refl
     where
       go : (y : Bool) → agree f (length a) ≡ y
-          → TermVerdict f a (gated agree (Is (placed f (length a) (pad 4 a)))) (first_fault 1 (true ∷ true ∷ true ∷ true ∷ true ∷ true ∷ agree f (length a) ∷ [])) offset
-      go true e = rw e (refl, record { head = refl; count = refl; args = four-of (pad 4 a) (pad-length 4 a few) })
+          → TermVerdict f a (gated agree (Ok (placed f (length a) (pad 4 a)))) (first_fault 1 (true ∷ true ∷ true ∷ true ∷ true ∷ true ∷ agree f (length a) ∷ [])) offset
+      go true e = rw e (refl, record { head = refl; count = refl; args = refl; long = pad-length 4 a few })
       go false e = rw e record { number = refl; byte = seven; some = omega arith }
   named-verdict (M.at i) offset six seven = record { number = refl; byte = six; some = omega arith }
 
@@ -186,8 +179,8 @@ module _ (text : List ℕ) (at end : ℕ) (g : Legible text at end) (s : Read) (
       let e : at + (4 + i) * 2 ≡ at + 8 + i * 2 = omega arith in
       sym (get_or-drop 4 (fields_at text at end) i 0 ∙ field-at text at end g (4 + i) (omega arith) ∙ rw e)
 
-  abbrev tested : Bool → Bool → Termed
-  tested r b = choose r (choose b (Refused 5 0) (term_from text at count n)) (Refused 5 0)
+  abbrev tested : Bool → Bool → Result Term Fault
+  tested r b = cond r (cond b (Err NoRoom) (rows_named (term_from text at count n))) (Err NoRoom)
 
   abbrev Verdict : Bool → Bool → Type 0
   Verdict r b = TermVerdict symbol args (gated agree (tested r b)) (fault_in text at end s) (offset_for text at end s)
@@ -205,7 +198,7 @@ module _ (text : List ℕ) (at end : ℕ) (g : Legible text at end) (s : Read) (
   named : room ≡ true → count ≤ 4 → Verdict true false
   named r b =
       let c : length args ≤ 4 = omega (arith, args-length) in
-      let f = term-collect text at n args c args_at_lem ∙ collect-all 4 0 args n (λ l. Is (placed (symbol_at text (at + 2)) (length args) l)) c in
+      let f = term-collect text at n args c args_at_lem ∙ collect-all 4 0 args n (λ l. Ok (placed (symbol_at text (at + 2)) (length args) l)) c in
       rw (fault-is, r, le-leb (length args) 4 c, ← args-length, f, symbol-is)
       (named-verdict (symbol_at text (at + 2)) args agree c (missing n args) (offset_for text at end s) (offset-six c) (offset-first text at end s 7 refl refl))
 

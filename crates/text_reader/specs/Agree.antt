@@ -3,12 +3,11 @@
 --     Noted                there are n of them
 --     Used                 none clashes with a symbol exactly where the lines so far agree with it
 -- Assumes nothing.
-use Rattle.std.specs.Prelude.{List, ◌≡◌, ℕ, zero, suc, ◌+◌, ◌≤◌, eqb, length, get_or}
+use Rattle.std.specs.Prelude.{List, ◌≡◌, ℕ, zero, suc, ◌+◌, ◌≤◌, eqb, length, get_or, cond}
 use Rattle.meaning.specs.Text.{Read, counts_agree}
-use Rattle.text_lines.specs.Choice.{choose}
 
 unfoldable pub clash_of : ℕ → ℕ → ℕ → ℕ → ℕ
-clash_of g m f k = choose (eqb g f) (choose (eqb m k) 0 1) 0
+clash_of g m f k = cond (eqb g f) (cond (eqb m k) 0 1) 0
 
 unfoldable pub clashes_in : List ℕ → List ℕ → ℕ → ℕ → ℕ → ℕ
 clashes_in symbols counts f k zero = 0

@@ -6,17 +6,12 @@
 --     SizeIs                a line has its kind's length, with so many arguments, or has not
 --     kind_rank              a kind's rank
 -- Assumes nothing.
-use Rattle.std.specs.Prelude.{true, false, List, ◌≡◌, ℕ, ◌+◌, ◌-◌, ◌*◌, eqb, ltb, take, drop}
+use Rattle.std.specs.Prelude.{Option, Some, None, true, false, List, ◌≡◌, ℕ, ◌+◌, ◌-◌, ◌*◌, eqb, ltb, take, drop, cond}
 use Rattle.meaning.specs.Text as M
 use Rattle.meaning.specs.Text.{context_row, equation, difference, variable_pattern, symbol_pattern, equal_literal, unequal_literal, fields, is_listed, listed_as, kinds, sized}
-use Rattle.text_lines.specs.Choice.{choose}
 use Rattle.text_lines.specs.Lines.{value_at}
 use Rattle.text_reader.specs.declared.kinds.Kind.{Kind}
 use Rattle.text_reader.specs.declared.kinds.Kind.TheVariants.{ContextRow, Equation, Difference, VariablePattern, SymbolPattern, EqualLiteral, UnequalLiteral}
-use Rattle.text_reader.specs.declared.kinds.Listed.{Listed}
-use Rattle.text_reader.specs.declared.kinds.Listed.TheVariants as L
-use Rattle.text_reader.specs.declared.kinds.Sized.{Sized}
-use Rattle.text_reader.specs.declared.kinds.Sized.TheVariants as S
 
 abbrev pub meant_kind : Kind → M.Kind
 meant_kind ContextRow = context_row
@@ -27,19 +22,19 @@ meant_kind SymbolPattern = symbol_pattern
 meant_kind EqualLiteral = equal_literal
 meant_kind UnequalLiteral = unequal_literal
 
-abbrev pub Looked : ℕ → Listed → Type 0
-Looked n (L.Is k) = (is_listed n kinds ≡ true) × (listed_as n kinds ≡ meant_kind k)
-Looked n L.Unlisted = is_listed n kinds ≡ false
+abbrev pub Looked : ℕ → Option Kind → Type 0
+Looked n (Some k) = (is_listed n kinds ≡ true) × (listed_as n kinds ≡ meant_kind k)
+Looked n None = is_listed n kinds ≡ false
 
 abbrev pub fields_at : List ℕ → ℕ → ℕ → List ℕ
 fields_at text at end = fields (take (end - at) (drop at text))
 
-unfoldable pub fixed_size : ℕ → ℕ → Sized
-fixed_size long digits = choose (eqb long digits) (S.Is 0) S.Not
+unfoldable pub fixed_size : ℕ → ℕ → Option ℕ
+fixed_size long digits = cond (eqb long digits) (Some 0) None
 
-unfoldable pub term_size : List ℕ → ℕ → ℕ → Sized
+unfoldable pub term_size : List ℕ → ℕ → ℕ → Option ℕ
 term_size text at end =
-    choose (ltb (end - at) 8) S.Not (choose (eqb (end - at) (8 + value_at text (at + 6) * 2)) (S.Is (value_at text (at + 6))) S.Not)
+    cond (ltb (end - at) 8) None (cond (eqb (end - at) (8 + value_at text (at + 6) * 2)) (Some (value_at text (at + 6))) None)
 
 -- how long a line of a kind with so many arguments is
 abbrev pub LongBy : M.Kind → ℕ → ℕ → Type 0
@@ -51,9 +46,9 @@ LongBy symbol_pattern long count = long ≡ 8 + count * 2
 LongBy equal_literal long count = long ≡ 6
 LongBy unequal_literal long count = long ≡ 6
 
-abbrev pub SizeIs : List ℕ → ℕ → ℕ → M.Kind → Sized → Type 0
-SizeIs text at end k (S.Is count) = (sized k (fields_at text at end) ≡ true) × LongBy k (end - at) count
-SizeIs text at end k S.Not = sized k (fields_at text at end) ≡ false
+abbrev pub SizeIs : List ℕ → ℕ → ℕ → M.Kind → Option ℕ → Type 0
+SizeIs text at end k (Some count) = (sized k (fields_at text at end) ≡ true) × LongBy k (end - at) count
+SizeIs text at end k None = sized k (fields_at text at end) ≡ false
 
 abbrev pub kind_rank : Kind → ℕ
 kind_rank ContextRow = 1

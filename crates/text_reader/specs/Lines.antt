@@ -1,30 +1,31 @@
 -- Between two lines, and one line.
 --     line_of .. fault_in      a legible line, its kind, what it adds and the first test that it fails
 --     offset_for, Stopped     the byte of it that a refusal names; a refusal is the first test that fails, and its byte
---     Adds, EntryIs          an entry is what the line adds, or its refusal
+--     Adds, Lined, EntryIs   an entry is what the line adds, or its refusal
 --     Filled, Stands         a run holds some pieces; the runs hold what the lines before a place said, and reading goes on from there
 --     Reached                a legible line begins where the reading stands, and its end is found
 --     meant, Faulty, Steps   a refusal as a value of `meaning`; a text that it is given for; what one line more leaves
---     Ready, Ends            before the first line, and after the last
+--     Ends                   after the last
 --     told_refused            what is told of a refused text
 -- Assumes nothing.
-use Rattle.std.specs.Prelude.{true, List, ◌∷◌, ◌++◌, ◌≡◌, ℕ, ◌+◌, ◌-◌, ◌*◌, ◌<◌, ◌≤◌, length, take, drop, replicate}
+use Rattle.std.specs.Prelude.{Result, Ok, Err, true, List, ◌∷◌, ◌++◌, ◌≡◌, ℕ, ◌+◌, ◌-◌, ◌*◌, ◌<◌, ◌≤◌, length, take, drop, replicate}
 use Rattle.meaning.specs.Text as M
-use Rattle.meaning.specs.Text.{Read, row, statement, pattern, literal, listed_as, kinds, entry_of, field_at, tests_of, first_fault, offset_of, narrow, read_lines, read, lines_of, faulty, taken, rows_of, patterns_of}
+use Rattle.meaning.specs.Text.{Read, known, sized, row, statement, pattern, literal, listed_as, kinds, entry_of, field_at, tests_of, first_fault, offset_of, narrow, read_lines, read, lines_of, faulty, taken, rows_of, patterns_of}
 use Rattle.text_lines.specs.Lines.{Legible}
 use Rattle.runs.specs.Limits.{most_rows, most_statements, most_patterns, most_literals, row_size, said_size, pattern_size, literal_size}
 use Rattle.text_runs.specs.Numbers.{row_numbers, said_numbers, pattern_numbers, literal_numbers, numbers_of}
-use Rattle.text_runs.specs.declared.Answer.TheVariants.{Refused}
 use Rattle.replies.specs.declared.Refusal.{Refusal}
 use Rattle.text_runs.specs.declared.Told.{Told}
-use Rattle.text_reader.specs.Adding.{term_numbers, pair_numbers, variable_numbers}
+use Rattle.text_reader.specs.Pieces.{term_numbers, pair_numbers, variable_numbers}
 use Rattle.text_reader.specs.Agree.{Used}
-use Rattle.text_reader.specs.Kinds.{fields_at}
+use Rattle.text_reader.specs.Faults.{number_of, byte_of, refusal_of}
+use Rattle.text_reader.specs.Kinds.{fields_at, LongBy, meant_kind, kind_rank}
 use Rattle.text_reader.specs.State.{Within}
 use Rattle.text_reader.specs.declared.entries.Entry.{Entry}
 use Rattle.text_reader.specs.declared.entries.Entry.TheVariants as E
-use Rattle.text_reader.specs.declared.lines.Step.{Step}
-use Rattle.text_reader.specs.declared.lines.Step.TheVariants as N
+use Rattle.text_reader.specs.declared.faults.Fault.{Fault}
+use Rattle.text_reader.specs.declared.kinds.Kind.{Kind}
+use Rattle.text_reader.specs.declared.pieces.Pieces.{Pieces}
 use Rattle.text_reader.specs.declared.state.State.{State}
 
 abbrev pub line_of : List ℕ → ℕ → ℕ → M.Line
@@ -47,20 +48,35 @@ pub record Stopped (m : ℕ) (offset : ℕ → ℕ) (x o : ℕ) : Type 0 where
   pub byte : offset x ≡ o
   pub some : 0 < x
 
--- no test fails, and a piece is what the line adds
-pub record Adds {A : Type 0} (make : A → M.Entry) (numbers : A → List ℕ) (text : List ℕ) (at end : ℕ) (s : Read) (piece : List ℕ) : Type 0 where
+-- no test fails, and a piece of so many numbers is what the line adds
+pub record Adds {A : Type 0} (make : A → M.Entry) (numbers : A → List ℕ) (size : ℕ) (text : List ℕ) (at end : ℕ) (s : Read) (piece : List ℕ) : Type 0 where
   pub made : A
   pub fault : fault_in text at end s ≡ 0
   pub entry : entry_in text at end ≡ make made
   pub piece_is : numbers made ≡ piece
+  pub long : length piece ≡ size
 
-abbrev pub Verdict : List ℕ → ℕ → ℕ → Read → Entry → Type 0
-Verdict text at end s (E.Row t) = Adds row row_numbers text at end s (term_numbers t)
-Verdict text at end s (E.Said kind p) = Adds statement said_numbers text at end s (pair_numbers kind p)
-Verdict text at end s (E.Variable v) = Adds pattern pattern_numbers text at end s (variable_numbers v)
-Verdict text at end s (E.Symbol t) = Adds pattern pattern_numbers text at end s (5 ∷ term_numbers t)
-Verdict text at end s (E.Literal sign p) = Adds literal literal_numbers text at end s (pair_numbers sign p)
-Verdict text at end s (E.Refused x o) = Stopped (fault_in text at end s) (offset_for text at end s) x o
+abbrev pub AddsBy : List ℕ → ℕ → ℕ → Read → Entry → Type 0
+AddsBy text at end s (E.Row t) = Adds row row_numbers row_size text at end s (term_numbers t)
+AddsBy text at end s (E.Equation p) = Adds statement said_numbers said_size text at end s (pair_numbers 2 p)
+AddsBy text at end s (E.Difference p) = Adds statement said_numbers said_size text at end s (pair_numbers 3 p)
+AddsBy text at end s (E.Variable v) = Adds pattern pattern_numbers pattern_size text at end s (variable_numbers v)
+AddsBy text at end s (E.Symbol t) = Adds pattern pattern_numbers pattern_size text at end s (5 ∷ term_numbers t)
+AddsBy text at end s (E.Equal p) = Adds literal literal_numbers literal_size text at end s (pair_numbers 6 p)
+AddsBy text at end s (E.Unequal p) = Adds literal literal_numbers literal_size text at end s (pair_numbers 7 p)
+
+abbrev pub Verdict : List ℕ → ℕ → ℕ → Read → Result Entry Fault → Type 0
+Verdict text at end s (Ok e) = AddsBy text at end s e
+Verdict text at end s (Err f) = Stopped (fault_in text at end s) (offset_for text at end s) (number_of f) (byte_of f)
+
+-- a legible line of a kind, as long as the kind asks with so many arguments, and not below the rank so far
+pub record Lined (text : List ℕ) (end : ℕ) (kind : Kind) (count : ℕ) (s : State) : Type 0 where
+  pub legible : Legible text s.at end
+  pub listed : known (fields_at text s.at end) ≡ true
+  pub kinded : kind_in text s.at end ≡ meant_kind kind
+  pub size : sized (meant_kind kind) (fields_at text s.at end) ≡ true
+  pub long : LongBy (meant_kind kind) (end - s.at) count
+  pub rank : s.rank ≤ kind_rank kind
 
 -- a state has the numbers of what was read
 pub record Knows (s : State) (so : Read) : Type 0 where
@@ -71,7 +87,7 @@ pub record Knows (s : State) (so : Read) : Type 0 where
   pub patterns : s.patterns ≡ length (patterns_of so)
   pub literals : s.literals ≡ length so.clause.literals
 
-pub record EntryIs (text : List ℕ) (end : ℕ) (s : State) (symbols counts : List ℕ) (r : Entry) : Type 0 where
+pub record EntryIs (text : List ℕ) (end : ℕ) (s : State) (symbols counts : List ℕ) (r : Result Entry Fault) : Type 0 where
   pub verdict : (so : Read) → Knows s so → Used symbols counts s.terms so → Verdict text s.at end so r
 
 -- n pieces, and then zeros
@@ -80,29 +96,33 @@ pub record Filled {A : Type 0} (numbers : A → List ℕ) (size n : ℕ) (l : Li
   pub run_is : run ≡ numbers_of numbers l ++ replicate spare 0
   pub long : length (numbers_of numbers l) ≡ n * size
 
-pub record Space (rs ss ps ls fs ks : List ℕ) : Type 0 where
-  pub rows : most_rows * row_size ≤ length rs
-  pub said : most_statements * said_size ≤ length ss
-  pub patterns : most_patterns * pattern_size ≤ length ps
-  pub literals : most_literals * literal_size ≤ length ls
-  pub symbols : most_rows + most_patterns ≤ length fs
-  pub counts : most_rows + most_patterns ≤ length ks
+pub record Space (r : Pieces) : Type 0 where
+  pub rows : length r.rows ≡ most_rows * row_size
+  pub said : length r.said ≡ most_statements * said_size
+  pub patterns : length r.patterns ≡ most_patterns * pattern_size
+  pub literals : length r.literals ≡ most_literals * literal_size
+  pub symbols : length r.symbols ≡ most_rows + most_patterns
+  pub counts : length r.counts ≡ most_rows + most_patterns
 
-pub record Stands (text : List ℕ) (s : State) (rs ss ps ls fs ks : List ℕ) : Type 0 where
+-- the runs hold what was read
+pub record Holds (s : State) (so : Read) (r : Pieces) : Type 0 where
+  pub rows : Filled row_numbers row_size s.rows (rows_of so) r.rows
+  pub said : Filled said_numbers said_size (s.equations + s.differences) so.ledger.context.statements r.said
+  pub patterns : Filled pattern_numbers pattern_size s.patterns (patterns_of so) r.patterns
+  pub literals : Filled literal_numbers literal_size s.literals so.clause.literals r.literals
+
+pub record Stands (text : List ℕ) (s : State) (r : Pieces) : Type 0 where
   pub so : Read
   pub same : read narrow text ≡ read_lines narrow s.line so (lines_of (drop s.at text))
   pub inside : s.at ≤ length text
   pub within : Within s
   pub knows : Knows s so
-  pub rows : Filled row_numbers row_size s.rows (rows_of so) rs
-  pub said : Filled said_numbers said_size (s.equations + s.differences) so.ledger.context.statements ss
-  pub patterns : Filled pattern_numbers pattern_size s.patterns (patterns_of so) ps
-  pub literals : Filled literal_numbers literal_size s.literals so.clause.literals ls
-  pub used : Used fs ks s.terms so
-  pub space : Space rs ss ps ls fs ks
+  pub holds : Holds s so r
+  pub used : Used r.symbols r.counts s.terms so
+  pub space : Space r
 
-pub data Reached (text : List ℕ) (end : ℕ) (s : State) (rs ss ps ls fs ks : List ℕ) : Type 0 where
-  reached : Stands text s rs ss ps ls fs ks → Legible text s.at end → Reached text end s rs ss ps ls fs ks
+pub data Reached (text : List ℕ) (end : ℕ) (s : State) (r : Pieces) : Type 0 where
+  reached : Stands text s r → Legible text s.at end → Reached text end s r
 
 abbrev pub meant : Refusal → M.Refusal
 meant x = record { number = x.number; place = x.line; offset = x.offset }
@@ -111,39 +131,29 @@ abbrev pub Faulty : List ℕ → Refusal → Type 0
 Faulty text x = read narrow text ≡ faulty (meant x)
 
 -- one line later, further on
-pub record Moved (text : List ℕ) (at : ℕ) (s : State) (rs ss ps ls fs ks : List ℕ) : Type 0 where
-  pub stands : Stands text s rs ss ps ls fs ks
+pub record Moved (text : List ℕ) (at : ℕ) (s : State) (r : Pieces) : Type 0 where
+  pub stands : Stands text s r
   pub further : at < s.at
 
-abbrev pub Steps : List ℕ → ℕ → Step → List ℕ → List ℕ → List ℕ → List ℕ → List ℕ → List ℕ → Type 0
-Steps text at (N.Next s) rows said patterns literals symbols counts = Moved text at s rows said patterns literals symbols counts
-Steps text at (N.Refused x) rows said patterns literals symbols counts = Faulty text x
-
--- before the first line: zeros, and enough of them
-pub record Ready (rs ss ps ls fs ks : List ℕ) : Type 0 where
-  pub space : Space rs ss ps ls fs ks
-  pub rows : rs ≡ replicate (length rs) 0
-  pub said : ss ≡ replicate (length ss) 0
-  pub patterns : ps ≡ replicate (length ps) 0
-  pub literals : ls ≡ replicate (length ls) 0
+abbrev pub Steps : List ℕ → State → Result State Fault → Pieces → Type 0
+Steps text s (Ok n) r = Moved text s.at n r
+Steps text s (Err f) r = Faulty text (refusal_of s.line f)
 
 -- after the last line
-pub record Taken (text : List ℕ) (s : State) (rs ss ps ls : List ℕ) : Type 0 where
+pub record Taken (text : List ℕ) (s : State) (r : Pieces) : Type 0 where
   pub so : Read
   pub same : read narrow text ≡ taken so
   pub within : Within s
-  pub rows : Filled row_numbers row_size s.rows (rows_of so) rs
-  pub said : Filled said_numbers said_size (s.equations + s.differences) so.ledger.context.statements ss
-  pub patterns : Filled pattern_numbers pattern_size s.patterns (patterns_of so) ps
-  pub literals : Filled literal_numbers literal_size s.literals so.clause.literals ls
+  pub holds : Holds s so r
+  pub space : Space r
 
-abbrev pub Ends : List ℕ → Step → List ℕ → List ℕ → List ℕ → List ℕ → Type 0
-Ends text (N.Next s) rows said patterns literals = Taken text s rows said patterns literals
-Ends text (N.Refused x) rows said patterns literals = Faulty text x
+abbrev pub Ends : List ℕ → Result State Refusal → Pieces → Type 0
+Ends text (Ok s) r = Taken text s r
+Ends text (Err x) r = Faulty text x
 
 unfoldable pub told_refused : Refusal → Told
 told_refused x = record {
-  answer = Refused x;
+  answer = Err x;
   filled = record { rows = 0; said = 0; patterns = 0; literals = 0 };
   rows = replicate (most_rows * row_size) 0;
   said = replicate (most_statements * said_size) 0;

@@ -1,14 +1,15 @@
 -- The state between two lines, and after a line of each group.
 --     start_state                     before the first line
 --     passed_to                       the place and the number of the next line
---     after_row .. after_literal       one line more of a group
+--     after                          one line more, by what it adds
 --     Within                         what bounds a state
 --     numbers_in                      how many numbers the lines fill
 -- Assumes nothing.
-use Rattle.std.specs.Prelude.{◌≡◌, ℕ, suc, ◌+◌, ◌*◌, ◌≤◌, eqb}
-use Rattle.text_lines.specs.Choice.{choose}
+use Rattle.std.specs.Prelude.{◌≡◌, ℕ, suc, ◌+◌, ◌*◌, ◌≤◌}
 use Rattle.runs.specs.Limits.{most_rows, most_equations, most_differences, most_patterns, most_literals, row_size, said_size, pattern_size, literal_size}
 use Rattle.text_runs.specs.declared.Filled.{Filled}
+use Rattle.text_reader.specs.declared.entries.Entry.{Entry}
+use Rattle.text_reader.specs.declared.entries.Entry.TheVariants.{Row, Equation, Difference, Variable, Symbol, Equal, Unequal}
 use Rattle.text_reader.specs.declared.state.State.{State}
 
 abbrev pub start_state : State
@@ -40,17 +41,27 @@ after_row s = record {
   terms = s.terms + 1;
 }
 
-unfoldable pub tally_of : ℕ → ℕ → ℕ
-tally_of kind of = choose (eqb kind of) 1 0
-
-abbrev pub after_said : ℕ → State → State
-after_said kind s = record {
+abbrev pub after_equation : State → State
+after_equation s = record {
   at = s.at;
   line = s.line;
   rank = 2;
   rows = s.rows;
-  equations = s.equations + tally_of kind 2;
-  differences = s.differences + tally_of kind 3;
+  equations = s.equations + 1;
+  differences = s.differences;
+  patterns = s.patterns;
+  literals = s.literals;
+  terms = s.terms;
+}
+
+abbrev pub after_difference : State → State
+after_difference s = record {
+  at = s.at;
+  line = s.line;
+  rank = 2;
+  rows = s.rows;
+  equations = s.equations;
+  differences = s.differences + 1;
   patterns = s.patterns;
   literals = s.literals;
   terms = s.terms;
@@ -94,6 +105,15 @@ after_literal s = record {
   literals = s.literals + 1;
   terms = s.terms;
 }
+
+abbrev pub after : Entry → State → State
+after (Row t) s = after_row s
+after (Equation p) s = after_equation s
+after (Difference p) s = after_difference s
+after (Variable v) s = after_variable s
+after (Symbol t) s = after_symbol s
+after (Equal p) s = after_literal s
+after (Unequal p) s = after_literal s
 
 pub record Within (s : State) : Type 0 where
   pub rows : s.rows ≤ most_rows

@@ -6,20 +6,20 @@ use mathlib.Core.Path.{◌≡◌, refl, sym, ap, ◌∙◌}
 use Prim.Native.Nat.{ℕ}
 use native.Mathlib.Omega.{arith}
 use Rattle.text_runs.specs.Reads.{told_by, Holds, Reads}
-use Rattle.text_runs.specs.declared.Answer.{Answer}
-use Rattle.text_runs.specs.declared.Answer.TheVariants.{Taken, Refused}
+use Rattle.std.specs.Prelude.{Result, Ok, Err}
+use Rattle.replies.specs.declared.Refusal.{Refusal}
 use Rattle.text_runs.specs.declared.Filled.{Filled}
 use Rattle.text_runs.specs.declared.Told.{Told}
 
-told-one : (a b : Answer) → told_by a ≡ told_by b → a ≡ b
-told-one Taken Taken e = refl
-told-one Taken (Refused y) e = absurd (let z : ◌≡◌ {A = ℕ} 0 1 = cc in omega arith)
-told-one (Refused x) Taken e = absurd (let z : ◌≡◌ {A = ℕ} 0 1 = cc in omega arith)
-told-one (Refused x) (Refused y) e =
+told-one : (a b : Result (Unit {0}) Refusal) → told_by a ≡ told_by b → a ≡ b
+told-one (Ok u) (Ok v) e = refl
+told-one (Ok u) (Err y) e = absurd (let z : ◌≡◌ {A = ℕ} 0 1 = cc in omega arith)
+told-one (Err x) (Ok v) e = absurd (let z : ◌≡◌ {A = ℕ} 0 1 = cc in omega arith)
+told-one (Err x) (Err y) e =
     let n : x.number ≡ y.number = cc in
     let l : x.line ≡ y.line = cc in
     let o : x.offset ≡ y.offset = cc in
-    ap Refused (rw (n, l, o))
+    ap Err (rw (n, l, o))
 
 module _ {A : Type 0} {numbers : A → List ℕ} {places : ℕ} {l : List A} {run other : List ℕ} {n m : ℕ} where
   run-one : Holds numbers places l run n → Holds numbers places l other m → run ≡ other
@@ -52,7 +52,7 @@ reads-one text r s p q =
     whole : r.answer ≡ s.answer → r.filled ≡ s.filled → r.rows ≡ s.rows → r.said ≡ s.said → r.patterns ≡ s.patterns → r.literals ≡ s.literals
         → r ≡ s
     whole a f b c d e =
-        ap (λ (x : Answer). record { answer = x; filled = r.filled; rows = r.rows; said = r.said; patterns = r.patterns; literals = r.literals }) a
+        ap (λ (x : Result (Unit {0}) Refusal). record { answer = x; filled = r.filled; rows = r.rows; said = r.said; patterns = r.patterns; literals = r.literals }) a
         ∙ ap (λ (x : Filled). record { answer = s.answer; filled = x; rows = r.rows; said = r.said; patterns = r.patterns; literals = r.literals }) f
         ∙ ap (λ (x : List ℕ). record { answer = s.answer; filled = s.filled; rows = x; said = r.said; patterns = r.patterns; literals = r.literals }) b
         ∙ ap (λ (x : List ℕ). record { answer = s.answer; filled = s.filled; rows = s.rows; said = x; patterns = r.patterns; literals = r.literals }) c

@@ -4,19 +4,18 @@
 --     Holds            a run that holds some pieces, and then zeros
 --     Reads            the reader's promise
 -- Assumes nothing.
-use Rattle.std.specs.Prelude.{List, [], ◌∷◌, ◌≡◌, ℕ, ◌*◌, length}
+use Rattle.std.specs.Prelude.{List, [], ◌∷◌, ◌≡◌, ℕ, ◌*◌, length, Result, Ok, Err}
 use Rattle.meaning.specs.Text as M
 use Rattle.meaning.specs.Text.{Read, faulty, taken, read, narrow, nothing_read, rows_of, patterns_of}
 use Rattle.meaning.specs.Columns.{pad}
 use Rattle.runs.specs.Limits.{most_rows, most_statements, most_patterns, most_literals, row_size, said_size, pattern_size, literal_size}
 use Rattle.text_runs.specs.Numbers.{row_numbers, said_numbers, pattern_numbers, literal_numbers, numbers_of}
-use Rattle.text_runs.specs.declared.Answer.{Answer}
-use Rattle.text_runs.specs.declared.Answer.TheVariants.{Taken, Refused}
+use Rattle.replies.specs.declared.Refusal.{Refusal}
 use Rattle.text_runs.specs.declared.Told.{Told}
 
-abbrev pub told_by : Answer → List ℕ
-told_by Taken = []
-told_by (Refused x) = x.number ∷ x.line ∷ x.offset ∷ []
+abbrev pub told_by : Result (Unit {0}) Refusal → List ℕ
+told_by (Ok u) = []
+told_by (Err x) = x.number ∷ x.line ∷ x.offset ∷ []
 
 abbrev pub told_of : M.Reading → List ℕ
 told_of (faulty f) = f.number ∷ f.place ∷ f.offset ∷ []

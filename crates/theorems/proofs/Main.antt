@@ -12,7 +12,8 @@ use Rattle.meaning.specs.Demands.{RefusesRightly, LeavesRightly, FindsFirst, Kee
 use Rattle.meaning.proofs.Rightly.{right-refuses, right-leaves, right-finds, right-keeps}
 use Rattle.replies.specs.declared.Outcome.TheVariants.{Breach}
 use Rattle.replies.specs.declared.Reply.{Reply}
-use Rattle.normaliser.specs.declared.Written.{Written}
+use Rattle.std.specs.Prelude.{Result, Ok}
+use Rattle.replies.specs.declared.Refusal.{Refusal}
 use Rattle.reply_lines.specs.declared.Line.{Line}
 use Rattle.outputs.specs.Claims.{normal_limit, PrintsFound, PrintsNormal}
 use Rattle.outputs.specs.declared.Parts.{Parts}
@@ -22,12 +23,9 @@ use Rattle.listing.specs.Filling.{Pieces}
 use Rattle.listing.specs.Opening as Listing
 use Rattle.listing.specs.declared.opening.Opened.{Opened as ListOpened}
 use Rattle.listing.proofs.Output.{opened-prints, opened-ends}
-use Rattle.grounds_verdict.specs.declared.Answer.TheVariants.{Accepted}
 use Rattle.grounds_verdict.specs.declared.Conclusions.{Conclusions}
 use Rattle.grounds_judgement.specs.Judgements.{BreachOf}
-use Rattle.grounds_judgement.specs.Claims.{JudgesTo}
-use Rattle.grounds_judgement.specs.declared.Outcome.{Outcome as Judgement}
-use Rattle.grounds_judgement.specs.declared.Outcome.TheVariants.{Judged}
+use Rattle.grounds_judgement.specs.Claims.{Outcome as Judgement, JudgesTo}
 use Rattle.grounds_judgement.proofs.Answers as Judging
 use Rattle.grounds_steps.specs.Steps.{most_steps}
 use Rattle.writer.specs.Claims.{Writes as WritesGrounds}
@@ -42,7 +40,7 @@ use Rattle.theorems.specs.Said.{Find, finder_of, Normalise, normaliser_of, shown
 use Rattle.theorems.proofs.Contracts.{finds-rightly, found-shown, verify-shown}
 
 -- Every text ends in one listed reply; a faulty text is refused by number and place, the first fault deciding, and then no lent byte is written.
-pub demand-1 : (f : List ℕ → Reply) → Find f → (n : List ℕ → List ℕ → Written × List ℕ) → Normalise n
+pub demand-1 : (f : List ℕ → Reply) → Find f → (n : List ℕ → List ℕ → Result ℕ Refusal × List ℕ) → Normalise n
     → RefusesRightly (finder_of f) × LeavesRightly (normaliser_of n)
 demand-1 f find n normalise = (right-refuses (finder_of f) (finds-rightly f find), right-leaves (normaliser_of n) normalise)
 
@@ -51,7 +49,7 @@ pub demand-2 : (f : List ℕ → Reply) → Find f → FindsFirst (finder_of f)
 demand-2 f find = right-finds (finder_of f) (finds-rightly f find)
 
 -- There is a normal text; normal texts agree exactly when the same rows are equal and the same are kept apart; normalising twice changes nothing; every rule gets one reply.
-pub demand-3 : (n : List ℕ → List ℕ → Written × List ℕ) → Normalise n → KeepsMeaning (normaliser_of n)
+pub demand-3 : (n : List ℕ → List ℕ → Result ℕ Refusal × List ℕ) → Normalise n → KeepsMeaning (normaliser_of n)
 demand-3 n normalise = right-keeps (normaliser_of n) normalise
 
 -- The list: what `listing::opening::open` and the pieces of `listing::fill` give, joined, is every breach made of representatives, each once and in order, and then 09.
@@ -65,13 +63,13 @@ pub list-ends : (input : List ℕ) (o : ListOpened) → Listing.Opens input o �
 list-ends = opened-ends
 
 -- Grounds that `grounds_judgement::judge` accepts, whoever wrote them, show a breach of the text's rule.
-pub accepted-breach : (text places : List ℕ) (steps : List (List ℕ)) (d : Conclusions) → JudgesTo text places steps d (Judged Accepted) → BreachOf narrow text places
+pub accepted-breach : (text places : List ℕ) (steps : List (List ℕ)) (d : Conclusions) → JudgesTo text places steps d (Ok (Ok tt)) → BreachOf narrow text places
 accepted-breach text places steps d j = Judging.accepted-breach _ _ _ narrow text j.judges
 
 -- Grounds that `writer::write` gives for a breach are accepted.
 pub ours-accepted : (text : List ℕ) (steps : List (List ℕ)) (r : Grounds) (x : List (List ℕ)) → WritesGrounds text steps r x → (n : ℕ) → r.outcome ≡ Breach n
     → (o : Judgement) → JudgesTo text r.places (take r.steps x) r.conclusions o
-    → o ≡ Judged Accepted
+    → o ≡ Ok (Ok tt)
 ours-accepted = writes-accepted
 
 -- What `find` prints, refusal 11 first.

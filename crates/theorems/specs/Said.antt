@@ -6,7 +6,7 @@
 --     Spaces, ended            the spaces that are lent for `verify`, and what they hold after an input
 --     PrintsAfter              the contract of `grounds_replies::reply` then
 -- Assumes nothing.
-use Rattle.std.specs.Prelude.{List, ℕ, ◌≤◌, length, take}
+use Rattle.std.specs.Prelude.{List, ℕ, ◌≤◌, length, take, Result}
 use Rattle.meaning.specs.Text.{narrow}
 use Rattle.meaning.specs.Replies as M
 use Rattle.meaning.specs.Replies.{breach, none, refused, input_limit, Writes}
@@ -17,7 +17,7 @@ use Rattle.replies.specs.declared.Outcome.{Outcome}
 use Rattle.replies.specs.declared.Outcome.TheVariants.{Breach, Clear, Refused}
 use Rattle.replies.specs.declared.Reply.{Reply}
 use Rattle.normaliser.specs.Claims.{written_by}
-use Rattle.normaliser.specs.declared.Written.{Written}
+use Rattle.replies.specs.declared.Refusal.{Refusal}
 use Rattle.reply_lines.specs.declared.Line.{Line}
 use Rattle.grounds_intake.specs.Machine.{Memory, memory, fresh, fed, finished}
 use Rattle.grounds_replies.specs.Replies.{step_limit}
@@ -37,10 +37,10 @@ Find f = (text : List ℕ) → Finds text (f text)
 abbrev pub finder_of : (List ℕ → Reply) → Finder
 finder_of f text = reply_in (f text)
 
-abbrev pub Normalise : (List ℕ → List ℕ → Written × List ℕ) → Type 0
+abbrev pub Normalise : (List ℕ → List ℕ → Result ℕ Refusal × List ℕ) → Type 0
 Normalise n = (text lent : List ℕ) → Writes narrow text lent (written_by (n text lent).0) (n text lent).1
 
-abbrev pub normaliser_of : (List ℕ → List ℕ → Written × List ℕ) → Normaliser
+abbrev pub normaliser_of : (List ℕ → List ℕ → Result ℕ Refusal × List ℕ) → Normaliser
 normaliser_of n text lent = (written_by (n text lent).0, (n text lent).1)
 
 abbrev pub shown_in : Line → List ℕ

@@ -18,6 +18,7 @@ use Rattle.meaning.specs.ByTable.{same_list}
 use Rattle.meaning.specs.Columns.{args_at, row_from, rows_from}
 use Rattle.meaning.specs.Values.{held}
 use Rattle.meaning.proofs.Built.{length-rows, rows-at}
+use Rattle.std.specs.Prelude.{Some, None}
 use Rattle.values.specs.Chains.{chain_of, Gap, Linked, Chained, Looked}
 
 pub linked-start : (symbols : List ℕ) (n : ℕ) (first next : List ℕ) → n ≤ 255 → first ≡ replicate 256 255 → Linked symbols n n first next
@@ -132,9 +133,9 @@ module _ (symbols counts args : List ℕ) (n : ℕ) (rep : ℕ → ℕ) (f : ℕ
         let g : Gap symbols n (f % 256) (suc i) j = rw (← add-one i, p) (subst (λ x. Gap symbols n x (i + 1) (get_or next i 0)) (s.on h) (w.links i (omega arith) h)) in
         record { same = λ d. s.same d ∙ held-miss d i h (sym e ∙ q) ∙ held-gap d (suc i) j g; on = g.lands }
 
-    pub seeking-found : (b : Bool) (r : ℕ) → i < n → b ≡ fits i → b ≡ true → r ≡ rep i → r < 65536 → Looked rep f ns rows r
-    seeking-found b r h e q p l =
-        record { found = λ _ d. p ∙ sym (s.same d ∙ held-hit d i h (sym e ∙ q)); absent = λ g. absurd (omega arith) }
+    pub seeking-found : (b : Bool) (r : ℕ) → i < n → b ≡ fits i → b ≡ true → r ≡ rep i → Looked rep f ns rows (Some r)
+    seeking-found b r h e q p =
+        record { found = λ v z d. let w : v ≡ r = cc in w ∙ p ∙ sym (s.same d ∙ held-hit d i h (sym e ∙ q)); absent = λ z. cc }
 
-    pub seeking-ends : n ≤ i → Looked rep f ns rows 65536
-    seeking-ends h = record { found = λ l. absurd (omega arith); absent = λ _ d. sym (s.same d ∙ held-past d i h) }
+    pub seeking-ends : n ≤ i → Looked rep f ns rows None
+    seeking-ends h = record { found = λ v z. cc; absent = λ _ d. sym (s.same d ∙ held-past d i h) }

@@ -22,6 +22,7 @@ use Rattle.meaning.specs.Columns.{args_at, patterns_from}
 use Rattle.meaning.specs.Values.{pattern₀, pattern_at, number_at, args_of, Numbering, is_over, met, number_of, step, number}
 use Rattle.meaning.proofs.Built.{pattern_in, patterns-at}
 use Rattle.columns.proofs.Flat.{pattern-at-variable, pattern-at-symbol, arg-at, args-length}
+use Rattle.std.specs.Prelude.{Option, Some, None}
 use Rattle.values.specs.Chains.{Lined, Looked}
 use Rattle.plan.specs.Planning.{RuleFit}
 use Rattle.values.specs.Reading.{Shaped, Listed, state_of, look_of, term_of, read_of}
@@ -86,14 +87,14 @@ module _ {ps : List Pattern} {f : ℕ} {ns values : List ℕ} {d read j : ℕ} {
 
 -- ---- a symbol over values
 
-module _ (rows : List Row) (rep : ℕ → ℕ) (ps : List Pattern) (f : ℕ) (wanted values done : List ℕ) (row n count v : ℕ)
-    (e : n ≡ count) (l : Looked rep f (take n wanted) rows v) where
-  pub look-held : v < 65536 → v ≡ look_of rows rep ps f (take count wanted) values done row
-  look-held h = rw (← e) (l.found h (met ps f (take n wanted) values (65536 + row) done))
+module _ (rows : List Row) (rep : ℕ → ℕ) (ps : List Pattern) (f : ℕ) (wanted values done : List ℕ) (row n count : ℕ)
+    (o : Option ℕ) (e : n ≡ count) (l : Looked rep f (take n wanted) rows o) where
+  pub look-held : (v r : ℕ) → o ≡ Some v → r ≡ v → r ≡ look_of rows rep ps f (take count wanted) values done row
+  look-held v r h q = rw (← e) (q ∙ l.found v h (met ps f (take n wanted) values (65536 + row) done))
 
-  pub look-met : (r own : ℕ) → 65536 ≤ v → own ≡ 65536 + row → r ≡ met ps f (take n wanted) values own done
+  pub look-met : (r own : ℕ) → o ≡ None → own ≡ 65536 + row → r ≡ met ps f (take n wanted) values own done
       → r ≡ look_of rows rep ps f (take count wanted) values done row
-  look-met r own h o q = q ∙ rw (o, ← e) (l.absent h (met ps f (take n wanted) values (65536 + row) done))
+  look-met r own h z q = q ∙ rw (z, ← e) (l.absent h (met ps f (take n wanted) values (65536 + row) done))
 
 -- ---- one row
 

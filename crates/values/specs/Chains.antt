@@ -3,13 +3,14 @@
 --     Chained    the first row of each chain, and the next row after each
 --     Lined      what the comparison of a row asks of its columns
 --     Looked     what the look-up finds
---     LedgerFit  what the look-up of a row asks of its columns
+--     LedgerFit, LedgerFits  what the look-up of a row asks of its columns
 -- Assumes nothing.
 -- the remainder by which row i is chained
-use Rattle.std.specs.Prelude.{List, ◌≡◌, ℕ, ◌+◌, ◌*◌, ◌%◌, ◌≤◌, ◌<◌, length, get_or}
+use Rattle.std.specs.Prelude.{Option, Some, None, List, ◌≡◌, ℕ, ◌+◌, ◌*◌, ◌%◌, ◌≤◌, ◌<◌, length, get_or}
 use Rattle.meaning.specs.Context.{Row}
 use Rattle.meaning.specs.Values.{held}
 use Rattle.columns.specs.Fit.{PlacedAt, Laid}
+use Rattle.values.specs.declared.chain.Ledger.{Ledger}
 
 abbrev pub chain_of : List ℕ → ℕ → ℕ
 chain_of symbols i = get_or symbols i 0 % 256
@@ -39,7 +40,10 @@ pub record LedgerFit (symbols counts args : List ℕ) (rows : ℕ) (first next :
   pub laid : Laid counts args rows
   pub chained : Chained symbols rows first next
 
--- a value that was looked up is that of the row, whatever it would be without one; 65,536 says that there is no such row
-pub record Looked (rep : ℕ → ℕ) (f : ℕ) (ns : List ℕ) (rows : List Row) (r : ℕ) : Type 0 where
-  pub found : r < 65536 → (d : ℕ) → r ≡ held rep f ns d 0 rows
-  pub absent : 65536 ≤ r → (d : ℕ) → d ≡ held rep f ns d 0 rows
+-- a value that was looked up is that of the row, whatever it would be without one; or there is no such row
+pub record Looked (rep : ℕ → ℕ) (f : ℕ) (ns : List ℕ) (rows : List Row) (r : Option ℕ) : Type 0 where
+  pub found : (v : ℕ) → r ≡ Some v → (d : ℕ) → v ≡ held rep f ns d 0 rows
+  pub absent : r ≡ None → (d : ℕ) → d ≡ held rep f ns d 0 rows
+
+abbrev pub LedgerFits : Ledger → Type 0
+LedgerFits l = LedgerFit l.terms.symbols.now l.terms.counts.now l.terms.args.now l.terms.rows l.chains.now.first l.chains.now.next

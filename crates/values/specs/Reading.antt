@@ -1,7 +1,9 @@
 -- Pattern rows read in an order: what the reading asks of its columns, and what it gives.
 --     Listed, Asked               rows of an order that have been read; all that a reading asks
+--     AskedIn                      the same of what is lent as one
 --     state_of                     the values so far and the rows read so far
 --     look_of, term_of, read_of      the value of a symbol over values, of one row, and the values after some rows of the order
+--     look_in, term_in, read_in      the same of what is lent as one
 -- Assumes nothing.
 use Rattle.std.specs.Prelude.{true, false, List, ℕ, ◌+◌, ◌*◌, ◌≤◌, ◌<◌, ltb, length, get_or, take}
 use Rattle.std.proofs.Math.Seq.{slice}
@@ -11,6 +13,9 @@ use Rattle.meaning.specs.Values.{pattern_at, held, met, Numbering, number_of, nu
 use Rattle.columns.specs.Fit.{PatternAt}
 use Rattle.plan.specs.Planning.{RuleFit}
 use Rattle.values.specs.Chains.{LedgerFit}
+use Rattle.values.specs.declared.value.Reading.{Reading}
+use Rattle.meaning.specs.Equality.{rep_at}
+use Rattle.columns.specs.Lent.{rows_in, patterns_in}
 
 -- pattern row q can be compared with so many values
 pub record Shaped (shapes heads arities subs : List ℕ) (q count : ℕ) : Type 0 where
@@ -48,3 +53,20 @@ module _ (rows : List Row) (rep : ℕ → ℕ) (ps : List Pattern) (order chosen
 
   unfoldable pub read_of : ℕ → ℕ → List ℕ
   read_of from to = (number rows rep 65536 ps chosen (state_of values order from) (slice from to order)).numbers
+
+abbrev pub AskedIn : Reading → ℕ → Type 0
+AskedIn r =
+    Asked r.ledger.terms.symbols.now r.ledger.terms.counts.now r.ledger.terms.args.now r.ledger.terms.rows r.ledger.chains.now.first r.ledger.chains.now.next
+    r.patterns.kinds.now r.patterns.heads.now r.patterns.counts.now r.patterns.args.now r.patterns.rows r.order.now
+
+-- the value of symbol row `row` over values
+abbrev pub look_in : Reading → List ℕ → List ℕ → ℕ → ℕ → ℕ
+look_in r wanted values read row =
+    look_of (rows_in r.ledger.terms) (rep_at r.ledger.table.now) (patterns_in r.patterns) (get_or r.patterns.heads.now row 0)
+    (take (get_or r.patterns.counts.now row 0) wanted) values (take read r.order.now) row
+
+abbrev pub term_in : Reading → List ℕ → List ℕ → ℕ → ℕ → ℕ → ℕ
+term_in r chosen values = term_of (rows_in r.ledger.terms) (rep_at r.ledger.table.now) (patterns_in r.patterns) r.order.now chosen values
+
+abbrev pub read_in : Reading → List ℕ → List ℕ → ℕ → ℕ → List ℕ
+read_in r chosen values = read_of (rows_in r.ledger.terms) (rep_at r.ledger.table.now) (patterns_in r.patterns) r.order.now chosen values

@@ -2,17 +2,26 @@
 ghost use Rattle.std.specs.Prelude.{◌≡◌, ◌&&◌, map, ◌%◌, ◌<◌, ◌≤◌, eqb, get_or, take, replicate};
 ghost use Rattle.meaning.specs.Equality.{rep_at};
 ghost use Rattle.meaning.specs.ByTable.{same_list};
-ghost use Rattle.meaning.specs.Columns.{args_at, rows_from};
-ghost use Rattle.values.specs.Chains.{Chained, Lined, Looked, LedgerFit};
+ghost use Rattle.meaning.specs.Columns.{args_at};
+ghost use Rattle.columns.specs.Lent.{rows_in};
+ghost use Rattle.values.specs.Chains.{Chained, Lined, Looked, LedgerFits};
 
-use crate::size::{long, wide, wide8};
+use columns::Terms;
 
 // The first row of each chain, and the next row after each; 255 ends a chain. A chain holds the rows whose symbols leave one
-// remainder by 256, rising.
+// remainder by 256, rising. No Option: a row takes two bytes, and none is told by the number past the last.
 #[derive(Clone, Copy)]
 pub struct Chains {
     pub first: [u16; 256],
     pub next: [u16; 255],
+}
+
+// The rows of a context, a table of representatives, and the chains.
+#[derive(Clone, Copy)]
+pub struct Ledger<'a> {
+    pub terms: Terms<'a>,
+    pub table: &'a [u16; 255],
+    pub chains: &'a Chains,
 }
 
 fn ended() -> Chains
@@ -27,8 +36,7 @@ fn ended() -> Chains
 fn bucket(symbol: u16) -> usize
     ensures { result ≡ symbol % 256 }
 {
-    let b = symbol % 256;
-    wide(b)
+    usize::from(symbol % 256)
 }
 
 pub fn link(symbols: &[u16; 255], rows: usize) -> Chains
@@ -38,9 +46,7 @@ pub fn link(symbols: &[u16; 255], rows: usize) -> Chains
     let none = ended();
     let mut first = none.first;
     let mut next = none.next;
-    let mut i = rows;
-    while 0 < i {
-        i -= 1;
+    for i in (0..rows).rev() {
         let b = bucket(symbols[i]);
         next[i] = first[b];
         first[b] = i as u16;
@@ -49,59 +55,50 @@ pub fn link(symbols: &[u16; 255], rows: usize) -> Chains
 }
 
 // Whether row i has a symbol over so many classes.
-fn row_has<'a>(
-    symbols: &'a [u16; 255],
-    counts: &'a [u8; 255],
-    args: &'a [u16; 1020],
-    table: &'a [u16; 255],
-    i: usize,
-    symbol: u16,
-    count: usize,
-    wanted: [u32; 4],
-) -> bool
+fn row_has(ledger: &Ledger, i: usize, symbol: u16, count: usize, wanted: [u32; 4]) -> bool
     requires i_bound { i < 255 }
-    requires lined { Lined counts.now args.now i count }
-    ensures { result ≡ (eqb symbol (get_or symbols.now i 0) && same_list (take count wanted) (map (rep_at table.now) (args_at counts.now args.now i))) }
+    requires lined { Lined ledger.now.terms.counts.now ledger.now.terms.args.now i count }
+    ensures { result ≡ (eqb symbol (get_or ledger.now.terms.symbols.now i 0) && same_list (take count wanted) (map (rep_at ledger.now.table.now) (args_at ledger.now.terms.counts.now ledger.now.terms.args.now i))) }
 {
+    let Terms {
+        symbols,
+        counts,
+        args,
+        ..
+    } = ledger.terms;
+    let table = ledger.table;
     if symbols[i] != symbol {
         return false;
     }
-    if wide8(counts[i]) != count {
+    if usize::from(counts[i]) != count {
         return false;
     }
-    let mut k = 0;
-    while k < count {
-        if long(table[wide(args[i * 4 + k])]) != wanted[k] {
+    for k in 0..count {
+        if u32::from(table[usize::from(args[i * 4 + k])]) != wanted[k] {
             return false;
         }
-        k += 1;
     }
     true
 }
 
-// The representative of the first row that has a symbol over so many classes, or 65,536.
-pub(crate) fn held<'a>(
-    symbols: &'a [u16; 255],
-    counts: &'a [u8; 255],
-    args: &'a [u16; 1020],
-    rows: usize,
-    table: &'a [u16; 255],
-    first: &'a [u16; 256],
-    next: &'a [u16; 255],
-    symbol: u16,
-    count: usize,
-    wanted: [u32; 4],
-) -> u32
-    requires ledger_fit { LedgerFit symbols.now counts.now args.now rows first.now next.now }
+// The representative of the first row that has a symbol over so many classes.
+pub(crate) fn held(ledger: &Ledger, symbol: u16, count: usize, wanted: [u32; 4]) -> Option<u16>
+    requires ledger_fit { LedgerFits ledger.now }
     requires count_bound { count ≤ 4 }
-    ensures { Looked (rep_at table.now) symbol (take count wanted) (rows_from symbols.now counts.now args.now rows) result }
+    ensures { Looked (rep_at ledger.now.table.now) symbol (take count wanted) (rows_in ledger.now.terms) result }
 {
-    let mut i = wide(first[bucket(symbol)]);
-    while i < rows {
-        if row_has(symbols, counts, args, table, i, symbol, count, wanted) {
-            return long(table[i]);
+    let Ledger {
+        terms,
+        table,
+        chains,
+    } = *ledger;
+    let mut i = usize::from(chains.first[bucket(symbol)]);
+    // No iterator: each row of a chain leads to the next.
+    while i < terms.rows {
+        if row_has(ledger, i, symbol, count, wanted) {
+            return Some(table[i]);
         }
-        i = wide(next[i]);
+        i = usize::from(chains.next[i]);
     }
-    65536
+    None
 }

@@ -2,5 +2,4 @@
 #![tactic(auto)]
 
 pub mod chain;
-mod size;
 pub mod value;

@@ -1,13 +1,13 @@
 // Prints what the checker says of the text and the grounds on standard input.
 #![tactic(auto)]
 
-ghost use Rattle.std.specs.Prelude.{◌≡◌, ◌<◌};
+ghost use Rattle.std.specs.Prelude.{◌≡◌, IfOk};
 ghost use Rattle.grounds_intake.specs.Machine.{memory, fresh};
 ghost use Rattle.channels.specs.Taking.{Read};
 ghost use Rattle.channels.specs.Sending.{Delivers};
-ghost use Rattle.verify.specs.Runs.{turn_of, left_by, TakesPiece, TakesAll, Spaces, Ready, Verified, Verifies};
+ghost use Rattle.verify.specs.Runs.{taken_by, parser_of, TakesPiece, TakesAll, Spaces, Ready, Verified, Verifies};
 
-use channels::input::{Got, PIECE_SPACE, piece_space, say_endless, take_piece};
+use channels::input::{PIECE_SPACE, Unread, piece_space, say_endless, take_piece};
 use channels::output::{Sent, put};
 use channels::telling::{FAILED, report, tell};
 use grounds_intake::Parser;
@@ -16,45 +16,48 @@ use replies::INPUT_LIMIT;
 use reply_lines::Line;
 use std::rt::{Env, Files};
 
-// After a piece there may be more; the input ended with it; or it could not be read.
+// What was taken in so far: there may be more, or the input ended.
 #[derive(Clone, Copy)]
-enum Turn {
-    More,
-    Ended,
-    Failed,
+enum Taken {
+    More(Parser),
+    Ended(Parser),
 }
 
-// What was taken in so far.
-#[derive(Clone, Copy)]
-struct Taken {
-    parser: Parser,
-    turn: Turn,
-}
-
-// A piece that is not full is the last.
-fn turn_after(got: Got) -> Turn
-    ensures { result ≡ turn_of got }
-{
-    match got {
-        Got::Bytes(n) => {
-            if n < PIECE_SPACE {
-                Turn::Ended
-            } else {
-                Turn::More
-            }
+impl Taken {
+    // A piece that is not full is the last.
+    fn after(parser: Parser, length: usize) -> Taken
+        ensures { result ≡ taken_by parser length }
+    {
+        if length < PIECE_SPACE {
+            Taken::Ended(parser)
+        } else {
+            Taken::More(parser)
         }
-        Got::Failed => Turn::Failed,
+    }
+
+    // The parser behind what was taken in.
+    fn parser(self) -> Parser
+        ensures { result ≡ parser_of self }
+    {
+        match self {
+            Taken::More(p) | Taken::Ended(p) => p,
+        }
     }
 }
 
 // Takes in a piece that was read.
-fn take_in(p: Parser, got: Got, piece: &[u8], text: &mut [u8], steps: &mut [[u64; WORDS]]) -> Taken
+fn take_in(
+    p: Parser,
+    got: Result<usize, Unread>,
+    piece: &[u8],
+    text: &mut [u8],
+    steps: &mut [[u64; WORDS]],
+) -> Taken
     requires { Read got piece.now }
     ensures { TakesPiece (memory p text.old steps.old) result text.new steps.new }
 {
-    let turn = turn_after(got);
     let parser = grounds_intake::feed(p, piece, text, steps);
-    Taken { parser, turn }
+    Taken::after(parser, piece.len())
 }
 
 // Takes what comes next of standard input.
@@ -63,48 +66,32 @@ fn take_next(
     p: Parser,
     text: &mut [u8],
     steps: &mut [[u64; WORDS]],
-) -> Taken
-    ensures { TakesPiece (memory p text.old steps.old) result text.new steps.new }
+) -> Result<Taken, Unread>
+    ensures { IfOk result (λ taken. TakesPiece (memory p text.old steps.old) taken text.new steps.new) }
 {
     let mut piece = piece_space();
     let got = take_piece(rt, &mut piece);
-    match got {
-        Got::Bytes(n) => take_in(p, got, &piece[..n], text, steps),
-        Got::Failed => Taken {
-            parser: p,
-            turn: Turn::Failed,
-        },
-    }
+    let n = got?;
+    Ok(take_in(p, got, &piece[..n], text, steps))
 }
 
-// How many turns are left: none where there is nothing more to take.
-fn left(turn: Turn, turns: usize) -> usize
-    requires { 0 < turns }
-    ensures { result ≡ left_by turn turns }
-{
-    match turn {
-        Turn::More => turns - 1,
-        Turn::Ended => 0,
-        Turn::Failed => 0,
-    }
-}
-
-// Takes all of standard input. Nothing says that it ends, so the turns are counted down from a number that no run uses up; where one does, there
+// Takes all of standard input. Nothing says that it ends, so the turns are counted by a number that no run uses up; where one does, there
 // may still be more.
-fn take_all(rt: &(impl Input + Eprint), text: &mut [u8], steps: &mut [[u64; WORDS]]) -> Taken
-    ensures { TakesAll (memory fresh text.old steps.old) result text.new steps.new }
+fn take_all(
+    rt: &(impl Input + Eprint),
+    text: &mut [u8],
+    steps: &mut [[u64; WORDS]],
+) -> Result<Taken, Unread>
+    ensures { IfOk result (λ taken. TakesAll (memory fresh text.old steps.old) taken text.new steps.new) }
 {
-    let mut p = grounds_intake::start();
-    let mut turn = Turn::More;
-    let mut turns = usize::MAX;
-    while turns > 0 {
-        let taken = take_next(rt, p, text, steps);
-        let parser = taken.parser;
-        p = parser;
-        turn = taken.turn;
-        turns = left(turn, turns);
+    let mut parser = grounds_intake::start();
+    for _ in 0..usize::MAX {
+        match take_next(rt, parser, text, steps)? {
+            Taken::More(p) => parser = p,
+            Taken::Ended(p) => return Ok(Taken::Ended(p)),
+        }
     }
-    Taken { parser: p, turn }
+    Ok(Taken::More(parser))
 }
 
 // The line for an input that was taken in to its end.
@@ -112,8 +99,7 @@ fn answer(taken: Taken, text: &mut [u8], steps: &mut [[u64; WORDS]]) -> Line
     requires { Ready taken text.old steps.old }
     ensures { Verifies result }
 {
-    let p = taken.parser;
-    let q = grounds_intake::finish(p, steps);
+    let q = grounds_intake::finish(taken.parser(), steps);
     grounds_replies::reply(q, text, steps)
 }
 
@@ -129,9 +115,7 @@ fn deliver(rt: &(impl Print + Eprint), line: Line) -> Sent
     requires { Verifies line }
     ensures { Delivers Verified result }
 {
-    let bytes = line.bytes;
-    let len = line.len;
-    hand(rt, &bytes[..len])
+    hand(rt, line.as_bytes())
 }
 
 // Where the input ended, its line is handed over; else there is no reply.
@@ -142,15 +126,16 @@ fn run(
 )
     requires { Spaces text.old steps.old }
 {
-    let taken = take_all(rt, text, steps);
-    let turn = taken.turn;
-    match turn {
-        Turn::Ended => report(rt, deliver(rt, answer(taken, text, steps))),
-        Turn::More => {
+    let Ok(taken) = take_all(rt, text, steps) else {
+        tell(rt, FAILED);
+        return;
+    };
+    match taken {
+        Taken::Ended(_) => report(rt, deliver(rt, answer(taken, text, steps))),
+        Taken::More(_) => {
             say_endless(rt);
             tell(rt, FAILED);
         }
-        Turn::Failed => tell(rt, FAILED),
     }
 }
 

@@ -23,12 +23,12 @@ use Rattle.meaning.specs.Grounds.{accepted}
 use Rattle.meaning.proofs.Answered.{replies-one}
 use Rattle.meaning.proofs.Bounds.{read-bounded}
 use Rattle.search.specs.declared.Kind.TheVariants as S
-use Rattle.grounds_verdict.specs.declared.Answer.TheVariants as Verdict
+use Rattle.grounds_verdict.specs.declared.Fault.{Fault}
 use Rattle.grounds_verdict.specs.declared.Conclusions.{Conclusions}
 use Rattle.grounds_judgement.specs.Judgements as J
 use Rattle.grounds_judgement.specs.Claims.{JudgesTo}
-use Rattle.grounds_judgement.specs.declared.Outcome.{Outcome as Judgement}
-use Rattle.grounds_judgement.specs.declared.Outcome.TheVariants as W
+use Rattle.replies.specs.declared.Refusal.{Refusal as Told}
+use Rattle.std.specs.Prelude.{Result, Ok}
 use Rattle.grounds_judgement.proofs.Answers.{judges-one}
 use Rattle.replies.specs.Told.{told_by, told_of}
 use Rattle.finder.specs.Claims.{Finds}
@@ -172,9 +172,9 @@ module _ (text : List ℕ) (steps : List (List ℕ)) where
     unfolding steps_of
     writes-many = length-map (take r.steps x) step_of ∙ length-take-le r.steps x (omega (arith, fits, shown.shown.words.long))
 
-    pub writes-accepted : (o : Judgement) → JudgesTo text r.places (take r.steps x) r.conclusions o → o ≡ W.Judged Verdict.Accepted
+    pub writes-accepted : (o : Result (Result (Unit {0}) Fault) Told) → JudgesTo text r.places (take r.steps x) r.conclusions o → o ≡ Ok (Ok tt)
     writes-accepted o j =
-        judges-one text r.places (take r.steps x) r.conclusions o (W.Judged Verdict.Accepted) j
+        judges-one text r.places (take r.steps x) r.conclusions o (Ok (Ok tt)) j
         (record {
           judges = J.judges shown.said shown.reads (J.judged accepted) (J.weighs ready.0 ready.1 accepted shown.shown.verified);
         })

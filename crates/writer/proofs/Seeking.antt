@@ -2,7 +2,6 @@
 --     outcome-..       the search's answer as it is told
 --     unfit-not-none   a failure would not be told as none
 --     seek-..          what is found is a breach, and its four places are those of the search; well-formed runs are never unfit
---     in-..            the filled parts of runs
 --     mine             what these functions leave to show
 -- Assumes nothing.
 use mathlib.Core.List.{List, [], ◌∷◌}
@@ -20,7 +19,6 @@ use Rattle.runs.proofs.Saying.{length-rows}
 use Rattle.replies.specs.Told.{told_by, told_of}
 use Rattle.replies.specs.declared.Outcome.{Outcome}
 use Rattle.replies.specs.declared.Outcome.TheVariants as O
-use Rattle.text_runs.specs.declared.Filled.{Filled}
 use Rattle.search.specs.Hunting.{answer_of}
 use Rattle.search.specs.Finding.{found_by}
 use Rattle.search.specs.declared.Kind.{Kind}
@@ -28,9 +26,8 @@ use Rattle.search.specs.declared.Kind.TheVariants as S
 use Rattle.search.specs.declared.Reply.{Reply as Searched}
 use Rattle.hunting.specs.Laid.{Ready}
 use Rattle.grounds_verdict.specs.declared.Conclusions.{Conclusions}
-use Rattle.ruling.proofs.Saying.{part-long}
 use Rattle.writer.specs.Drawing.{Broken, Shows}
-use Rattle.writer.specs.Seeking.{bare_with, Draws, outcome_by, Seekable, Sought, SeekableIn}
+use Rattle.writer.specs.Seeking.{bare_with, Draws, outcome_by, Seekable, Sought}
 use Rattle.writer.specs.declared.Grounds.{Grounds}
 use Rattle.writer.specs.declared.drawing.Support.{Support}
 use Rattle.writer.proofs.Placing.{placed-chosen, placed-holds}
@@ -142,27 +139,8 @@ module _ (rows said patterns literals table : List ℕ) (w : Seekable rows said 
             leaves = d.shown;
           }
 
--- ---- the filled parts
-
-module _ (rows said patterns literals : List ℕ) (filled : Filled) (table : List ℕ) (w : SeekableIn rows said patterns literals filled table) where
-  pub in_rows_lem : filled.rows ≤ length rows
-  in_rows_lem = w.rows_inside
-
-  pub in-said : filled.said ≤ length said
-  in-said = w.said-inside
-
-  pub in-patterns : filled.patterns ≤ length patterns
-  in-patterns = w.patterns-inside
-
-  pub in-literals : filled.literals ≤ length literals
-  in-literals = w.literals-inside
-
-  pub in-seekable : Seekable (take filled.rows rows) (take filled.said said) (take filled.patterns patterns) (take filled.literals literals) table
-  in-seekable = w.seekable
-
 pub ruleset mine = (
   rules,
-  part-long,
   outcome-breach,
   outcome-clear,
   outcome-unfit,
@@ -172,9 +150,4 @@ pub ruleset mine = (
   seek-clear,
   seek-unfit,
   seek-drawn,
-  in_rows_lem,
-  in-said,
-  in-patterns,
-  in-literals,
-  in-seekable,
 )

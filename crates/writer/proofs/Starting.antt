@@ -8,7 +8,7 @@
 -- Assumes nothing.
 use mathlib.Core.Bool.{true, false}
 use mathlib.Core.List.{List}
-use mathlib.Core.Path.{◌≡◌, refl, sym, ap, ap₂, ◌∙◌}
+use mathlib.Core.Path.{◌≡◌, refl, sym, ap, ap₂, ◌∙◌, subst}
 use Prim.Native.Nat.{ℕ, ◌+◌, ◌*◌, ◌≤◌, ◌<◌}
 use native.Mathlib.Omega.{arith}
 use borrow.Author.Rules.{rules}
@@ -76,6 +76,9 @@ module _ (ps : List (ℕ × ℕ)) (run : List ℕ) (m : ℕ) (w : Stated ps run 
 
   pub stated-few : pair_count (take m run) < most_numbers
   stated-few = omega (arith, w.few)
+
+  pub stated-apart : pair_count (take m run) + 1 < most_numbers
+  stated-apart = omega (arith, w.few)
 
 pub close-closed : (keys ns said run : List ℕ) (state : State) {after : State} {m : ℕ} → state ≡ blank → Stated (numbered ns (pairs_of true (statements_of said))) run m
     → after ≡ settled_by keys ns (take m run) state
@@ -151,6 +154,11 @@ module _ (rows said patterns literals a keys ns cells table : List ℕ) (steps :
     unfolding closed-drawable
     closed-shows e = record { shown = drew-shown keys ns (take m run) literals n cells table steps closed-drawable e }
 
+-- the run that was lent holds the same at the end
+pub shows-handed : {rows said patterns literals a : List ℕ} {steps w w' : List (List ℕ)} {s : Support} → w ≡ w' → Shows rows said patterns literals a steps s w'
+    → Shows rows said patterns literals a steps s w
+shows-handed {rows} {said} {patterns} {literals} {a} {steps} {s = s} e h = subst (Shows rows said patterns literals a steps s) (sym e) h
+
 pub ruleset mine = (
   rules,
   part-long,
@@ -161,6 +169,7 @@ pub ruleset mine = (
   state-stated,
   stated-inside,
   stated-few,
+  stated-apart,
   close-closed,
   close-blank,
   made-numbers,

@@ -13,21 +13,21 @@ use native.Mathlib.Omega.{arith}
 use borrow.Author.Rules.{rules}
 use borrow.Author.Tests.{ltb-true, ltb-false}
 use lib.Dec.{ltb}
-use lib.ListN.{length, get_or, set, replicate, length-set, length-replicate}
+use lib.ListN.{length, get_or, set, replicate}
 use Rattle.meaning.specs.Grounds.{literal_at}
 use Rattle.meaning.proofs.Entries.{length-entries}
 use Rattle.runs.specs.Limits.{most_literals}
 use Rattle.runs.specs.Runs.{row_count, rows_of, literal_count, literals_of}
-use Rattle.grounds_numbers.specs.Limits.{most_numbers}
-use Rattle.grounds_numbers.specs.Pairs.{pair_count, pairs_in}
+use Rattle.grounds_numbers.specs.Pairs.{pairs_in}
 use Rattle.grounds_laws.specs.Limits.{draft_run, number_run}
 use Rattle.grounds_laws.specs.Classes.{state_of, upto}
 use Rattle.grounds_laws.specs.Concluding.{Said, said, resumed, owner_of}
-use Rattle.grounds_classes.specs.Settling.{Entered}
 use Rattle.grounds_conclusions.specs.Saying.{Says, saying_by}
 use Rattle.grounds_batches.specs.Sending.{new_of, Out, out_of, batch, Small}
 use Rattle.grounds_batches.specs.Drawing.{Drawn, blank_drawn, draw_said, draw_one, drawn_to}
 use Rattle.grounds_words.specs.Emitting.{Batched, Sendable}
+use Rattle.grounds_words.specs.declared.Out.{Out as Held}
+use Rattle.grounds_words.specs.Holding.{Keeps}
 use Rattle.writer.specs.Drawing.{asked_of, said_to, Sayable, turns_to, Drawable, Drew}
 use Rattle.writer.specs.declared.drawing.Asked.{Asked}
 use Rattle.writer.proofs.Showing.{said-run, owner-run, meant_to, turns-are, meant_at, said-is, Far, far-to, far-column, far-sendable}
@@ -35,12 +35,6 @@ use Rattle.writer.proofs.Showing.{said-run, owner-run, meant_to, turns-are, mean
 -- ---- one turn
 
 module _ (keys apart : List ℕ) (q : Asked) (table : List ℕ) (from : ℕ) (cells news : List ℕ) (next : ℕ) (w : Sayable keys apart q table from cells news next) where
-  pub turn-entered : Entered keys
-  turn-entered = w.entered
-
-  pub turn-few : pair_count apart + 1 < most_numbers
-  turn-few = w.few
-
   pub turn-start : 0 < length cells
   turn-start = w.start
 
@@ -53,8 +47,8 @@ pub turn-says : (keys apart : List ℕ) (q : Asked) (table : List ℕ) (from : �
 unfolding said_to
 turn-says keys apart q table from cells s = s
 
-pub turn-long : (cells after : List ℕ) (x : ℕ) → length after ≡ length (set cells 0 x) → length after ≡ length cells
-turn-long cells after x e = e ∙ length-set cells 0 x
+pub keeps-on : {a b c : Held} → Keeps a b → Keeps b c → Keeps a c
+keeps-on e f = record { words = f.words ∙ e.words; numbers = f.numbers ∙ e.numbers }
 
 pub turn-batched : {n from shared owner first : ℕ} {cells : List ℕ} {before after : Out} → shared ≡ from → Batched n shared owner cells first before after
     → Batched n from owner cells first before after
@@ -95,14 +89,14 @@ module _ (keys ns apart literals : List ℕ) (n : ℕ) (cells₀ table : List �
     pub count : many ≡ literal_count literals
     pub shared : from ≡ get_or cells₀ 0 0
 
-  pub turning-start : {many from : ℕ} {news firsts differences : List ℕ} → many ≡ literal_count literals → from ≡ get_or cells₀ 0 0
+  pub turning-start : {many from next : ℕ} {news firsts differences : List ℕ} → many ≡ literal_count literals → from ≡ get_or cells₀ 0 0 → next ≡ 0
       → news ≡ replicate number_run 0
       → firsts ≡ replicate most_literals 0
       → differences ≡ replicate most_literals 0
-      → Turning many from 0 cells₀ (out_of news 0 steps₀) firsts differences
+      → Turning many from 0 cells₀ (out_of news next steps₀) firsts differences
   unfolding turns_to drawn_to upto blank_drawn
-  turning-start c d e f g =
-      record { stands = rw (e, f, g); small = λ i h. absurd (omega arith); reach = omega arith; count = c; shared = d }
+  turning-start c d n e f g =
+      record { stands = rw (n, e, f, g); small = λ i h. absurd (omega arith); reach = omega arith; count = c; shared = d }
 
   module _ (w : Drawable keys ns apart literals n cells₀ table steps₀) {many from j : ℕ} {cells news firsts differences : List ℕ} {next : ℕ} {steps : List (List ℕ)}
       (at : Turning many from j cells (out_of news next steps) firsts differences) where
@@ -114,14 +108,6 @@ module _ (keys ns apart literals : List ℕ) (n : ℕ) (cells₀ table : List �
 
     turns : to j ≡ meant_to keys ns apart literals n cells₀ table steps₀ w j
     turns = turns-are keys ns apart literals n cells₀ table steps₀ w j
-
-    -- the run, the new numbers and the column keep their lengths
-    pub turning-long : length steps ≡ length steps₀
-    turning-long = ap (λ (d : Drawn). length d.out.steps) (at.stands ∙ turns) ∙ far.long
-
-    pub turning-numbers : {news₀ : List ℕ} → news₀ ≡ replicate number_run 0 → length news ≡ length news₀
-    turning-numbers e =
-        ap (λ (d : Drawn). length d.out.news) (at.stands ∙ turns) ∙ far.numbers ∙ sym (ap length e ∙ length-replicate {A = ℕ} number_run 0)
 
     column-long : length cells ≡ draft_run
     column-long = ap (λ (d : Drawn). length d.cells) (at.stands ∙ turns) ∙ far-column keys ns apart literals n cells₀ table steps₀ w j far
@@ -143,7 +129,7 @@ module _ (keys ns apart literals : List ℕ) (n : ℕ) (cells₀ table : List �
         pub turning-sayable : Sayable keys apart q table from cells news next
         turning-sayable =
             rw (eq, at.shared)
-            (record { entered = w.entered; few = omega (arith, w.pairs-few); start = omega (arith, column-long); sendable = sendable })
+            (record { start = omega (arith, column-long); sendable = sendable })
 
         module _ {cells₁ news₁ : List ℕ} {steps₁ : List (List ℕ)} {first difference next₁ end : ℕ} (says : Says cells₁ first difference (said_to keys apart q table from cells))
             (sends : Batched n from q.owner cells₁ first (out_of news next steps) (out_of news₁ next₁ steps₁)) (ee : end ≡ new_of news₁ first) where
@@ -171,16 +157,18 @@ module _ (keys ns apart literals : List ℕ) (n : ℕ) (cells₀ table : List �
           after-turn = rw add-one (record { stands = next-stands; small = λ i l. next_small i l (ltb i j) refl; reach = omega arith; count = at.count; shared = at.shared })
 
   -- the column that is left says what the turn was, and so the others
-  pub turning-next : {many from j first difference end next next₁ : ℕ} {cells news firsts differences cells₁ news₁ : List ℕ} {steps steps₁ : List (List ℕ)} {q : Asked}
+  pub turning-next : {many from j first difference d end next next₁ : ℕ} {cells news firsts differences cells₁ news₁ : List ℕ} {steps steps₁ : List (List ℕ)} {q : Asked}
       → Says cells₁ first difference (said_to keys apart q table from cells)
       → Batched n from q.owner cells₁ first (out_of news next steps) (out_of news₁ next₁ steps₁)
       → Turning many from j cells (out_of news next steps) firsts differences
       → end ≡ new_of news₁ first
+      → d ≡ difference
       → q ≡ asked_of ns literals n j
       → j < many
       → Drawable keys ns apart literals n cells₀ table steps₀
-      → Turning many from (j + 1) cells₁ (out_of news₁ next₁ steps₁) (set firsts j end) (set differences j difference)
-  turning-next says sends at ee eq h w = after-turn w at h eq says sends ee
+      → Turning many from (j + 1) cells₁ (out_of news₁ next₁ steps₁) (set firsts j end) (set differences j d)
+  turning-next {many} {from} {j} {end = end} {next₁ = next₁} {firsts = firsts} {differences = differences} {cells₁ = cells₁} {news₁ = news₁} {steps₁ = steps₁} says sends at ee ed eq h w =
+      subst (λ (x : ℕ). Turning many from (j + 1) cells₁ (out_of news₁ next₁ steps₁) (set firsts j end) (set differences j x)) (sym ed) (after-turn w at h eq says sends ee)
 
   pub turning-done : {many from j next : ℕ} {cells news firsts differences : List ℕ} {steps : List (List ℕ)} → Turning many from j cells (out_of news next steps) firsts differences
       → many ≤ j
@@ -201,7 +189,7 @@ module _ {keys ns apart literals : List ℕ} {n : ℕ} {cells₀ table : List �
   drawable-inside = omega (arith, w.rows, w.filled.numbers-long, length-entries w.context.rows w.places w.rule.patterns)
 
   start-long : length cells₀ ≡ draft_run
-  start-long = column-long keys ns apart literals n cells₀ table steps₀ w (turning-start keys ns apart literals n cells₀ table steps₀ refl refl refl refl refl)
+  start-long = column-long keys ns apart literals n cells₀ table steps₀ w (turning-start keys ns apart literals n cells₀ table steps₀ {next = 0} refl refl refl refl refl refl)
 
   pub drawable-start : 0 < length cells₀
   drawable-start = omega (arith, start-long)
@@ -209,29 +197,19 @@ module _ {keys ns apart literals : List ℕ} {n : ℕ} {cells₀ table : List �
   pub drawable-few : {many : ℕ} → many ≡ literal_count literals → many ≤ most_literals
   drawable-few e = omega (arith, w.literals-few)
 
-  pub turning-column : {many from j : ℕ} {cells news firsts differences : List ℕ} {next : ℕ} {steps : List (List ℕ)}
-      → Turning keys ns apart literals n cells₀ table steps₀ many from j cells (out_of news next steps) firsts differences
-      → length cells ≡ length cells₀
-  turning-column at = column-long keys ns apart literals n cells₀ table steps₀ w at ∙ sym start-long
-
 pub ruleset mine = (
   rules,
-  turn-entered,
-  turn-few,
   turn-start,
   turn-sendable,
   turn-says,
-  turn-long,
   turn-batched,
+  keeps-on,
   turning-start,
   turning-inside,
   turning-place,
   turning-sayable,
   turning-next,
   turning-done,
-  turning-long,
-  turning-numbers,
-  turning-column,
   drawable-inside,
   drawable-start,
   drawable-few,

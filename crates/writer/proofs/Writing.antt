@@ -19,22 +19,22 @@ use Rattle.meaning.specs.Replies.{breach, refused, refusal, reply_of, places_of,
 use Rattle.replies.specs.Told.{meant}
 use Rattle.replies.specs.declared.Refusal.{Refusal}
 use Rattle.search.specs.Finding.{found_by}
-use Rattle.ruling.specs.Claims.{context_in, clause_in, Rules}
-use Rattle.ruling.specs.declared.Answer.TheVariants as A
+use Rattle.ruling.specs.Claims.{rows_in, said_in, patterns_in, literals_in, context_in, clause_in, Rules}
+use Rattle.std.specs.Prelude.{Ok, Err}
 use Rattle.ruling.specs.declared.Ruled.{Ruled}
 use Rattle.ruling.proofs.Saying.{rows_inside, said-inside, patterns-inside, literals-inside}
 use Rattle.ruling.proofs.Ruling.{Stands, ready-stands, refused-answers}
 use Rattle.finder.proofs.Standing.{told-ready, ready-replies}
 use Rattle.grounds_steps.specs.Steps.{most_steps}
 use Rattle.writer.specs.Claims.{refuses, lacks, replies, Shown, Leaves, Writes}
-use Rattle.writer.specs.Seeking.{bare_with, refused_with, LeavesFor, SeekableIn, SoughtIn}
+use Rattle.writer.specs.Seeking.{bare_with, refused_with, LeavesFor, Seekable, Sought}
 use Rattle.writer.specs.declared.Grounds.{Grounds}
 
 pub write-room : (steps : List (List ℕ)) (b : Bool) → b ≡ false → b ≡ ltb (length steps) most_steps → most_steps ≤ length steps
 write-room steps b h e = ltb-false (length steps) most_steps (sym e ∙ h)
 
 module _ (text : List ℕ) (p : Ruled) (rules : Rules text p) (steps : List (List ℕ)) where
-  pub write-refused : (x : Refusal) → p.answer ≡ A.Refused x → (y : Grounds) → y ≡ refused_with x → Writes text steps y steps
+  pub write-refused : (x : Refusal) → p.answer ≡ Err x → (y : Grounds) → y ≡ refused_with x → Writes text steps y steps
   unfolding refused_with bare_with places_of
   write-refused x e y q =
       rw q
@@ -46,7 +46,20 @@ module _ (text : List ℕ) (p : Ruled) (rules : Rules text p) (steps : List (Lis
         leaves = record { count = refl; literals = refl; conclusions = refl; words = refl };
       }
 
-  module _ (ready : p.answer ≡ A.Ready) where
+  -- the filled parts are there
+  pub write-rows : p.told.filled.rows ≤ length p.told.rows
+  write-rows = rows_inside text p.told rules.told
+
+  pub write-said : p.told.filled.said ≤ length p.told.said
+  write-said = said-inside text p.told rules.told
+
+  pub write-patterns : p.told.filled.patterns ≤ length p.told.patterns
+  write-patterns = patterns-inside text p.told rules.told
+
+  pub write-literals : p.told.filled.literals ≤ length p.told.literals
+  write-literals = literals-inside text p.told rules.told
+
+  module _ (ready : p.answer ≡ Ok tt) where
     abbrev c : Context
     c = context_in p.told
 
@@ -83,18 +96,11 @@ module _ (text : List ℕ) (p : Ruled) (rules : Rules text p) (steps : List (Lis
         subst₂ (λ (d : Context) (l : Clause). Breach d (range_of d) l a) (sym stands.context) (sym stands.clause)
         (judged-breach stands.what.ledger.context stands.what.clause a (breach a) refl (subst (λ (y : Reading). RepliesTo y (breach a)) stands.whole (replied (found a) e)))
 
-    pub write-seekable : SeekableIn p.told.rows p.told.said p.told.patterns p.told.literals p.told.filled p.table
-    write-seekable =
-        record {
-          rows_inside = rows_inside text p.told rules.told;
-          said-inside = said-inside text p.told rules.told;
-          patterns-inside = patterns-inside text p.told rules.told;
-          literals-inside = literals-inside text p.told rules.told;
-          seekable = record { ready = told-ready text p rules; breach = breach-said };
-        }
+    pub write-seekable : Seekable (rows_in p.told) (said_in p.told) (patterns_in p.told) (literals_in p.told) p.table
+    write-seekable = record { ready = told-ready text p rules; breach = breach-said }
 
     pub write-sought : (b : Bool) → b ≡ ltb (length steps) most_steps → b ≡ false → {y : Grounds} {steps' : List (List ℕ)}
-        → SoughtIn p.told.rows p.told.said p.told.patterns p.told.literals p.told.filled p.table steps y steps'
+        → Sought (rows_in p.told) (said_in p.told) (patterns_in p.told) (literals_in p.told) p.table steps y steps'
         → Writes text steps y steps'
     write-sought b e h {y} {steps'} w =
         record {
@@ -114,4 +120,4 @@ module _ (text : List ℕ) (p : Ruled) (rules : Rules text p) (steps : List (Lis
             }
         leaves nothing l = l
 
-pub ruleset mine = (rules, write-room, write-refused, write-cramped, write-seekable, write-sought)
+pub ruleset mine = (rules, write-room, write-rows, write-said, write-patterns, write-literals, write-refused, write-cramped, write-seekable, write-sought)

@@ -22,7 +22,6 @@ use Rattle.runs.specs.Fit.{FitContext, FitClause}
 use Rattle.runs.specs.Runs.{row_count, rows_of, statements_of, context_of, sign_in, left_in, right_in, literal_count, literals_of, clause_of}
 use Rattle.replies.specs.declared.Outcome.{Outcome}
 use Rattle.grounds_steps.specs.Steps.{most_steps}
-use Rattle.grounds_numbers.specs.Limits.{most_numbers}
 use Rattle.grounds_numbers.specs.Entries.{entries_of, entry_count, Filled}
 use Rattle.grounds_numbers.specs.Pairs.{pair_count, pairs_in, pairs_of}
 use Rattle.grounds_verdict.specs.Claims.{Chosen}
@@ -67,8 +66,6 @@ said_to keys apart q table from cells = saying_by keys apart q.kind q.left q.rig
 
 -- the literal's steps fit their column, and there is a number for each step written after them
 pub record Sayable (keys apart : List ℕ) (q : Asked) (table : List ℕ) (from : ℕ) (cells news : List ℕ) (next : ℕ) : Type 0 where
-  pub entered : Entered keys
-  pub few : pair_count apart + 1 < most_numbers
   pub start : 0 < length cells
   pub sendable : Sendable (said_to keys apart q table from cells).cells news next
 

@@ -2,3 +2,4 @@
 pub mod Claims
 pub mod Drawing
 pub mod Seeking
+pub mod Lent

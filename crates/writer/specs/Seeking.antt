@@ -3,9 +3,8 @@
 --     Draws                   the answer for a breach, and the run afterwards
 --     outcome_by               what is told for the search's answer; for a failure refusal 0, which is no text's
 --     Seekable, Sought        what the search asks, and the answer for what was found
---     SeekableIn, SoughtIn    the same by the filled parts of runs
 -- Assumes nothing.
-use Rattle.std.specs.Prelude.{List, ◌≡◌, ℕ, ◌≤◌, length, take, replicate}
+use Rattle.std.specs.Prelude.{List, ◌≡◌, ℕ, replicate}
 use Rattle.meaning.specs.Context.{Context}
 use Rattle.meaning.specs.Rules.{range_of, Clause, Breach, Found, found, nothing}
 use Rattle.meaning.specs.Replies.{reply_of, places_of}
@@ -15,7 +14,6 @@ use Rattle.replies.specs.declared.Refusal.{Refusal}
 use Rattle.replies.specs.Told.{told_by, told_of}
 use Rattle.replies.specs.declared.Outcome.{Outcome}
 use Rattle.replies.specs.declared.Outcome.TheVariants as O
-use Rattle.text_runs.specs.declared.Filled.{Filled}
 use Rattle.search.specs.Finding.{found_by}
 use Rattle.search.specs.declared.Kind.{Kind}
 use Rattle.search.specs.declared.Kind.TheVariants as S
@@ -62,16 +60,3 @@ module _ (rows said patterns literals table : List ℕ) where
     pub told : told_by r.outcome ≡ told_of (reply_of what)
     pub places : r.places ≡ places_of (reply_of what)
     pub leaves : LeavesFor steps r steps' (context_of rows said) (clause_of patterns literals) what
-
--- ---- filled parts
-
-pub record SeekableIn (rows said patterns literals : List ℕ) (filled : Filled) (table : List ℕ) : Type 0 where
-  pub rows_inside : filled.rows ≤ length rows
-  pub said-inside : filled.said ≤ length said
-  pub patterns-inside : filled.patterns ≤ length patterns
-  pub literals-inside : filled.literals ≤ length literals
-  pub seekable : Seekable (take filled.rows rows) (take filled.said said) (take filled.patterns patterns) (take filled.literals literals) table
-
-abbrev pub SoughtIn : List ℕ → List ℕ → List ℕ → List ℕ → Filled → List ℕ → List (List ℕ) → Grounds → List (List ℕ) → Type 0
-SoughtIn rows said patterns literals filled table steps r steps' =
-    Sought (take filled.rows rows) (take filled.said said) (take filled.patterns patterns) (take filled.literals literals) table steps r steps'

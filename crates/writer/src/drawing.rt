@@ -1,24 +1,25 @@
 // What shows a breach: steps, and a conclusion for each literal, from runs that say a context and a rule.
 ghost use Rattle.std.specs.Prelude.{◌≡◌, ◌+◌, ◌≤◌, ◌<◌, length, replicate};
+ghost use Rattle.std.specs.Option.{unwrap_or};
 ghost use Rattle.runs.specs.Limits.{most_statements, most_literals};
 ghost use Rattle.meaning.specs.Checking.{numbered};
 ghost use Rattle.runs.specs.Runs.{said_count, statements_of, literal_count};
 ghost use Rattle.grounds_steps.specs.Steps.{most_steps};
-ghost use Rattle.grounds_numbers.specs.Limits.{most_numbers, pair_run};
-ghost use Rattle.grounds_numbers.specs.Pairs.{pair_count, pairs_of};
+ghost use Rattle.grounds_numbers.specs.Limits.{pair_run};
+ghost use Rattle.grounds_numbers.specs.Pairs.{pairs_of};
 ghost use Rattle.grounds_numbers.specs.Entries.{Room};
 ghost use Rattle.grounds_laws.specs.Limits.{number_run};
 ghost use Rattle.grounds_laws.specs.Classes.{state_of};
 ghost use Rattle.grounds_laws.specs.Rounds.{blank};
-ghost use Rattle.grounds_classes.specs.Settling.{Entered};
 ghost use Rattle.grounds_conclusions.specs.Saying.{Says};
-ghost use Rattle.grounds_batches.specs.Sending.{out_of};
 ghost use Rattle.grounds_words.specs.Emitting.{Batched};
-ghost use Rattle.writer.specs.Drawing.{Broken, owner_by, asked_of, said_to, Stated, closed_by, Sayable, Drawable, Drew, Entries, Closed, Shows};
+ghost use Rattle.grounds_words.specs.Holding.{out_in, Keeps};
+ghost use Rattle.writer.specs.Drawing.{owner_by, asked_of, said_to, Stated, Sayable, Drawable, Drew};
+ghost use Rattle.writer.specs.Lent.{BrokenIn, EntriesIn, ClosedIn, ShowsIn, closed_in};
 
-use casts::usize_of_u16;
+use super::Problem;
 use grounds_classes::settle;
-use grounds_conclusions::{Shown, say};
+use grounds_conclusions::{Closed, Shown, say};
 use grounds_laws::{CLASS_RUN, DRAFT_RUN, NUMBER_RUN};
 use grounds_numbers::limits::{ENTRIES, ENTRY_RUN, PAIR, PAIR_RUN};
 use grounds_numbers::numbers::number_after;
@@ -26,8 +27,7 @@ use grounds_numbers::pairs::stated;
 use grounds_numbers::table::{entry_count, fill};
 use grounds_steps::WORDS;
 use grounds_verdict::Conclusions;
-use grounds_words::batch;
-use grounds_words::words::new_of;
+use grounds_words::{Column, Out, batch};
 use runs::limits::{LITERALS, ROW, VARIABLES};
 use runs::{left_in, literal_count, right_in, row_count, sign_in};
 
@@ -40,14 +40,6 @@ pub(crate) struct Asked {
     owner: u8,
 }
 
-// The number of the step that a literal's conclusion cites, a stated difference, and how many steps are written.
-#[derive(Clone, Copy)]
-pub(crate) struct Turn {
-    first: u16,
-    difference: u16,
-    next: usize,
-}
-
 // How many steps are written, and a conclusion for each literal.
 #[derive(Clone, Copy)]
 pub(crate) struct Support {
@@ -55,7 +47,17 @@ pub(crate) struct Support {
     pub conclusions: Conclusions,
 }
 
+// A breach: an assignment, and the keys and the numbers of all entries under it.
+#[derive(Clone, Copy)]
+pub(crate) struct Breach<'a> {
+    problem: Problem<'a>,
+    asg: [u16; VARIABLES],
+    keys: &'a [u16],
+    numbers: &'a [u16],
+}
+
 // Whose steps literal j's own are, counted from 0: an unequal literal's number, and 0 for an equal one.
+// No Option: the words of steps hold this number.
 fn owner_of(kind: u16, j: usize) -> u8
     requires { j < most_literals }
     ensures { result ≡ owner_by kind j }
@@ -71,14 +73,11 @@ fn ask(numbers: &[u16], literals: &[u16], n: usize, j: usize) -> Asked
     ensures { result ≡ asked_of numbers.now literals.now n j }
 {
     let kind = sign_in(literals, j);
-    let left = number_after(numbers, n, left_in(literals, j));
-    let right = number_after(numbers, n, right_in(literals, j));
-    let owner = owner_of(kind, j);
     Asked {
         kind,
-        left,
-        right,
-        owner,
+        left: number_after(numbers, n, left_in(literals, j)),
+        right: number_after(numbers, n, right_in(literals, j)),
+        owner: owner_of(kind, j),
     }
 }
 
@@ -92,204 +91,158 @@ fn state(said: &[u16], numbers: &[u16], equations: bool, pairs: &mut [u16]) -> u
 }
 
 // The classes of all entries, closed by the stated equations, with their steps, from zeros.
-fn close_all(cells: &mut [u16], table: &mut [u16], keys: &[u16], numbers: &[u16], said: &[u16])
-    requires entered { Entered keys.now }
-    requires said_bound { said_count said.now ≤ most_statements }
+fn close_all(cells: &mut [u16], table: &mut [u16], breach: Breach)
+    requires entries { EntriesIn breach }
     requires table_value { state_of cells.old table.old ≡ blank }
-    ensures { state_of cells.new table.new ≡ closed_by keys.now numbers.now said.now }
+    ensures { state_of cells.new table.new ≡ closed_in breach.entry }
 {
     let mut pairs = [0u16; PAIR_RUN];
-    let m = state(said, numbers, true, &mut pairs);
-    settle(cells, table, keys, numbers, &pairs[..m]);
+    let m = state(breach.problem.said, breach.numbers, true, &mut pairs);
+    settle(cells, table, breach.keys, breach.numbers, &pairs[..m]);
 }
 
 // What is said for a literal, in a column whose first steps are shared, so many of them.
-fn say_after(
-    cells: &mut [u16],
-    table: [u16; CLASS_RUN],
-    keys: &[u16],
-    apart: &[u16],
-    q: Asked,
-    from: u16,
-) -> Shown
-    requires entered { Entered keys.now }
-    requires apart_bound { pair_count apart.now + 1 < most_numbers }
-    requires cells_nonzero { 0 < length cells.old }
-    ensures { Says cells.new result.first result.difference (said_to keys.now apart.now q table from cells.old) }
+fn say_after(cells: &mut [u16], closed: Closed, q: Asked, from: u16) -> Shown
+    requires { 0 < length cells.old }
+    ensures { Says cells.new result.first (unwrap_or result.difference 0) (said_to closed.entry.keys.now closed.entry.apart.now q closed.entry.table.now from cells.old) }
 {
     cells[0] = from;
-    say(cells, &table, keys, apart, q.kind, q.left, q.right)
+    say(cells, closed, q.kind, q.left, q.right)
 }
 
 // The turn of a literal: what its conclusion rests on, behind the steps that are written, of n context rows and so many shared steps.
 fn draw_one(
     cells: &mut [u16],
-    table: [u16; CLASS_RUN],
-    keys: &[u16],
-    apart: &[u16],
+    closed: Closed,
     q: Asked,
     n: usize,
     from: u16,
-    news: &mut [u32],
-    steps: &mut [[u64; WORDS]],
-    next: usize,
-) -> Turn
-    requires { Sayable keys.now apart.now q table from cells.old news.old next }
-    ensures says { Says cells.new result.first result.difference (said_to keys.now apart.now q table from cells.old) }
-    ensures sends { Batched n from q.owner cells.new result.first (out_of news.old next steps.old) (out_of news.new result.next steps.new) }
+    out: &mut Out,
+) -> Shown
+    requires { Sayable closed.keys.now closed.apart.now q closed.table.now from cells.old out.old.news.now out.old.next }
+    ensures says { Says cells.new result.first (unwrap_or result.difference 0) (said_to closed.entry.keys.now closed.entry.apart.now q closed.entry.table.now from cells.old) }
+    ensures sends { Batched n from q.owner cells.new result.first (out_in out.old) (out_in out.new) }
+    ensures keeps { Keeps out.old out.new }
 {
-    let s = say_after(cells, table, keys, apart, q, from);
-    let first = s.first;
-    let shared = usize_of_u16(from);
-    let last = batch(steps, news, cells, n, shared, q.owner, first, next);
-    Turn {
-        first,
-        difference: s.difference,
-        next: last,
-    }
+    let s = say_after(cells, closed, q, from);
+    let column = Column {
+        cells,
+        rows: n,
+        from: usize::from(from),
+        owner: q.owner,
+    };
+    batch(out, column, s.first);
+    s
 }
 
-// One literal after the other, from closed classes, by the stated differences and n context rows.
+// One literal after the other, from closed classes, by the numbers of all entries and n context rows.
+// A conclusion holds 0 for no difference.
 fn draw_each(
     cells: &mut [u16],
-    table: [u16; CLASS_RUN],
-    keys: &[u16],
+    closed: Closed,
     numbers: &[u16],
-    apart: &[u16],
     literals: &[u16],
     n: usize,
-    news: &mut [u32],
-    steps: &mut [[u64; WORDS]],
-) -> Support
-    requires drawable { Drawable keys.now numbers.now apart.now literals.now n cells.old table steps.old }
-    requires news_value { news.old ≡ replicate number_run 0 }
-    ensures { Drew keys.now numbers.now apart.now literals.now n cells.old table steps.old result steps.new }
+    out: &mut Out,
+) -> Conclusions
+    requires drawable { Drawable closed.keys.now numbers.now closed.apart.now literals.now n cells.old closed.table.now out.old.steps.now }
+    requires news_value { out.old.news.now ≡ replicate number_run 0 }
+    requires next_value { out.old.next ≡ 0 }
+    ensures drew { Drew closed.entry.keys.now numbers.now closed.entry.apart.now literals.now n cells.old closed.entry.table.now out.old.steps.now (record { steps = out.new.next; conclusions = result }) out.new.steps.now }
+    ensures keeps { Keeps out.old out.new }
 {
     let from = cells[0];
     let many = literal_count(literals);
     let mut firsts = [0u32; LITERALS];
     let mut differences = [0u16; LITERALS];
-    let mut next: usize = 0;
-    let mut j: usize = 0;
-    while j < many {
+    for j in 0..many {
         let q = ask(numbers, literals, n, j);
-        let t = draw_one(cells, table, keys, apart, q, n, from, news, steps, next);
-        firsts[j] = new_of(news, t.first);
-        differences[j] = t.difference;
-        next = t.next;
-        j += 1;
+        let s = draw_one(cells, closed, q, n, from, out);
+        firsts[j] = out.new_of(s.first);
+        differences[j] = s.difference.unwrap_or(0);
     }
-    let conclusions = Conclusions {
+    Conclusions {
         firsts,
         differences,
-    };
-    Support {
-        steps: next,
-        conclusions,
     }
 }
 
 // By closed classes of all entries.
 fn draw_closed(
-    rows: &[u16],
-    said: &[u16],
-    patterns: &[u16],
-    literals: &[u16],
-    asg: [u16; VARIABLES],
-    keys: &[u16],
-    numbers: &[u16],
+    breach: Breach,
     cells: &mut [u16],
     table: [u16; CLASS_RUN],
     steps: &mut [[u64; WORDS]],
 ) -> Support
-    requires { Closed rows.now said.now patterns.now literals.now asg keys.now numbers.now cells.old table steps.old }
-    ensures { Shows rows.now said.now patterns.now literals.now asg steps.old result steps.new }
+    requires { ClosedIn breach cells.old table steps.old }
+    ensures { ShowsIn breach.entry.problem breach.entry.asg steps.old result steps.new }
 {
     let mut pairs = [0u16; PAIR_RUN];
-    let m = state(said, numbers, false, &mut pairs);
+    let m = state(breach.problem.said, breach.numbers, false, &mut pairs);
+    let closed = Closed {
+        table: &table,
+        keys: breach.keys,
+        apart: &pairs[..m],
+    };
     let mut news = [0u32; NUMBER_RUN];
-    let n = row_count(rows);
-    draw_each(
-        cells,
-        table,
-        keys,
-        numbers,
-        &pairs[..m],
-        literals,
-        n,
-        &mut news,
+    let mut out = Out {
         steps,
-    )
+        news: &mut news,
+        next: 0,
+    };
+    let n = row_count(breach.problem.rows);
+    let literals = breach.problem.literals;
+    let conclusions = draw_each(cells, closed, breach.numbers, literals, n, &mut out);
+    Support {
+        steps: out.next,
+        conclusions,
+    }
 }
 
 // By the keys and the numbers of all entries.
-fn draw_by(
-    rows: &[u16],
-    said: &[u16],
-    patterns: &[u16],
-    literals: &[u16],
-    asg: [u16; VARIABLES],
-    keys: &[u16],
-    numbers: &[u16],
-    steps: &mut [[u64; WORDS]],
-) -> Support
-    requires entries { Entries rows.now said.now patterns.now literals.now asg keys.now numbers.now }
-    requires most_steps_in_bounds { most_steps ≤ length steps.old }
-    ensures { Shows rows.now said.now patterns.now literals.now asg steps.old result steps.new }
+fn draw_by(breach: Breach, steps: &mut [[u64; WORDS]]) -> Support
+    requires entries { EntriesIn breach }
+    requires room { most_steps ≤ length steps.old }
+    ensures { ShowsIn breach.entry.problem breach.entry.asg steps.old result steps.new }
 {
     let mut cells = [0u16; DRAFT_RUN];
     let mut table = [0u16; CLASS_RUN];
-    close_all(&mut cells, &mut table, keys, numbers, said);
-    draw_closed(
-        rows, said, patterns, literals, asg, keys, numbers, &mut cells, table, steps,
-    )
+    close_all(&mut cells, &mut table, breach);
+    draw_closed(breach, &mut cells, table, steps)
 }
 
 // The keys and the numbers of all entries are filled here.
 fn draw_in(
-    rows: &[u16],
-    said: &[u16],
-    patterns: &[u16],
-    literals: &[u16],
+    problem: Problem,
     asg: [u16; VARIABLES],
     keys: &mut [u16],
     numbers: &mut [u16],
     steps: &mut [[u64; WORDS]],
 ) -> Support
-    requires broken { Broken rows.now said.now patterns.now literals.now asg }
-    requires room { Room rows.now patterns.now keys.old numbers.old }
-    requires most_steps_in_bounds { most_steps ≤ length steps.old }
-    ensures { Shows rows.now said.now patterns.now literals.now asg steps.old result steps.new }
+    requires broken { BrokenIn problem asg }
+    requires entry_room { Room problem.rows.now problem.patterns.now keys.old numbers.old }
+    requires room { most_steps ≤ length steps.old }
+    ensures { ShowsIn problem.entry asg steps.old result steps.new }
 {
-    fill(rows, patterns, asg, keys, numbers);
-    draw_by(rows, said, patterns, literals, asg, keys, numbers, steps)
+    fill(problem.rows, problem.patterns, asg, keys, numbers);
+    let breach = Breach {
+        problem,
+        asg,
+        keys,
+        numbers,
+    };
+    draw_by(breach, steps)
 }
 
 // What shows that an assignment breaks the rule.
-pub(crate) fn draw(
-    rows: &[u16],
-    said: &[u16],
-    patterns: &[u16],
-    literals: &[u16],
-    asg: [u16; VARIABLES],
-    steps: &mut [[u64; WORDS]],
-) -> Support
-    requires broken { Broken rows.now said.now patterns.now literals.now asg }
-    requires most_steps_in_bounds { most_steps ≤ length steps.old }
-    ensures { Shows rows.now said.now patterns.now literals.now asg steps.old result steps.new }
+pub(crate) fn draw(problem: Problem, asg: [u16; VARIABLES], steps: &mut [[u64; WORDS]]) -> Support
+    requires broken { BrokenIn problem asg }
+    requires room { most_steps ≤ length steps.old }
+    ensures { ShowsIn problem.entry asg steps.old result steps.new }
 {
     let mut keys = [0u16; ENTRY_RUN];
     let mut numbers = [0u16; ENTRIES];
-    let n = entry_count(rows, patterns);
+    let n = entry_count(problem.rows, problem.patterns);
     let m = n * ROW;
-    draw_in(
-        rows,
-        said,
-        patterns,
-        literals,
-        asg,
-        &mut keys[..m],
-        &mut numbers[..n],
-        steps,
-    )
+    draw_in(problem, asg, &mut keys[..m], &mut numbers[..n], steps)
 }

@@ -2,17 +2,8 @@ use mathlib.Core.Path.{refl}
 use Rattle.bits.proofs.Loops.{mine, low-some}
 use Rattle.bits.proofs.lowest.Goals as goal
 
-pub loop-i-init : goal.loop-i-init
-loop-i-init c = search mine
-
-pub low-requires : goal.low-requires
-low-requires c = search mine
-
 pub returns-then-x-gt0 : goal.returns-then-x-gt0
 returns-then-x-gt0 c = low-some _ _ _ _ _ _ _ (search mine) (search mine) (search mine) c.low.ensures refl
-
-pub loop-i-preserved : goal.loop-i-preserved
-loop-i-preserved c = search mine
 
 pub returns : goal.returns
 returns c = search mine

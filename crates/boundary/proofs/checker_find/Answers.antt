@@ -3,14 +3,5 @@
 use Rattle.boundary.proofs.Packed.{mine}
 use Rattle.boundary.proofs.checker_find.Goals as goal
 
-pub find-reply-requires : goal.find-reply-requires
-find-reply-requires c = search mine
-
-pub hand-requires : goal.hand-requires
-hand-requires c = search mine
-
-pub pack_outcome-requires : goal.pack_outcome-requires
-pack_outcome-requires c = search mine
-
 pub returns : goal.returns
 returns c = search mine

@@ -3,9 +3,6 @@
 use Rattle.boundary.proofs.Packed.{mine}
 use Rattle.boundary.proofs.checker_normalise.Goals as goal
 
-pub normalise-written-requires : goal.normalise-written-requires
-normalise-written-requires c = search mine
-
 pub pack_written-requires : goal.pack_written-requires
 pack_written-requires c = search mine
 

@@ -7,7 +7,7 @@ use Rattle.breaches.proofs.Going.{Listed}
 use Rattle.breaches.proofs.list.Given as goal
 
 abbrev pub invariant-loop-l : goal.invariant-loop-l
-invariant-loop-l g l = Lent l.l l.known × Listed (context_in l.l) l.l.table (rule_in l.l) l.initial.state l.state l.sent
+invariant-loop-l g l = Lent l.l l.known × Listed (context_in l.l) l.l.table (rule_in l.l) l.initial.state l.state l.taken
 
 abbrev pub decreases-loop-l : goal.decreases-loop-l
 decreases-loop-l g l = left_of (context_in l.l) l.l.table (rule_in l.l) l.state

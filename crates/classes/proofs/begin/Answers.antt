@@ -3,9 +3,6 @@
 use Rattle.classes.proofs.Rounds.{mine}
 use Rattle.classes.proofs.begin.Goals as goal
 
-pub join_stated-requires : goal.join_stated-requires
-join_stated-requires c = search mine
-
 pub sum-requires : goal.sum-requires
 sum-requires c = search mine
 

@@ -1,20 +1,11 @@
 use Rattle.classes.proofs.Clashes.{mine}
 use Rattle.classes.proofs.clash.Goals as goal
 
-pub said_count-m-requires : goal.said_count-m-requires
-said_count-m-requires c = search mine
-
 pub loop-k-init : goal.loop-k-init
 loop-k-init c = search mine
 
-pub clash_at-requires : goal.clash_at-requires
-clash_at-requires c = search mine
-
 pub returns-then-clash_at : goal.returns-then-clash_at
 returns-then-clash_at c = search mine
-
-pub difference_at-n-requires : goal.difference_at-n-requires
-difference_at-n-requires c = search mine
 
 pub loop-k-preserved : goal.loop-k-preserved
 loop-k-preserved c = search mine

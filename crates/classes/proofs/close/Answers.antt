@@ -3,17 +3,8 @@
 use Rattle.classes.proofs.Widths.{mine}
 use Rattle.classes.proofs.close.Goals as goal
 
-pub own-table-requires : goal.own-table-requires
-own-table-requires c = search mine
-
-pub fit_context-requires : goal.fit_context-requires
-fit_context-requires c = search mine
-
-pub row_count-n-requires : goal.row_count-n-requires
-row_count-n-requires c = search mine
-
-pub settle-requires : goal.settle-requires
-settle-requires c = search mine
+pub settle-requires-clause-table_value : goal.settle-requires-clause-table_value
+settle-requires-clause-table_value c = search mine
 
 pub returns-then-fit_context : goal.returns-then-fit_context
 returns-then-fit_context c = search mine

@@ -4,9 +4,6 @@ use Rattle.closing.proofs.apart.Goals as goal
 pub loop-k-init : goal.loop-k-init
 loop-k-init c = search mine
 
-pub apart_at-requires : goal.apart_at-requires
-apart_at-requires c = search mine
-
 pub returns-then-apart_at : goal.returns-then-apart_at
 returns-then-apart_at c = search mine
 

@@ -1,18 +1,6 @@
 use borrow.Author.Rules.{rules}
-use Rattle.closing.proofs.Rounds.{rounding-start, rounding-next, rounding-ends, rounding-less, rounding-again, mine}
+use Rattle.closing.proofs.Rounds.{rounding-start, rounding-next, rounding-ends, rounding-less, rounding-again}
 use Rattle.closing.proofs.settle.Goals as goal
-
-pub join_stated-requires : goal.join_stated-requires
-join_stated-requires c = search mine
-
-pub sum-start-requires : goal.sum-start-requires
-sum-start-requires c = search mine
-
-pub join_rows-requires : goal.join_rows-requires
-join_rows-requires c = search mine
-
-pub sum-old-requires : goal.sum-old-requires
-sum-old-requires c = search mine
 
 pub returns-then-old-start : goal.returns-then-old-start
 returns-then-old-start c =
@@ -22,21 +10,9 @@ pub loop-old-init : goal.loop-old-init
 loop-old-init c =
     rounding-next (rounding-start _ _ _ _ _ _ _ _ _ _ _ c.requires.fit_context c.requires.rows_in_bounds c.requires.table_value c.join_stated.ensures c.sum-start.ensures) c.join_rows.ensures c.sum-old.ensures
 
-pub join_rows-requires-in-loop-old : goal.join_rows-requires-in-loop-old
-join_rows-requires-in-loop-old c = search mine
-
-pub sum-fresh-requires : goal.sum-fresh-requires
-sum-fresh-requires c = search mine
-
 pub returns-then-fresh-old : goal.returns-then-fresh-old
 returns-then-fresh-old c =
     rounding-ends c.loop-old.invariant c.join_rows-in-loop-old.ensures c.sum-fresh.ensures (search rules)
-
-pub follow-requires : goal.follow-requires
-follow-requires c = search mine
-
-pub sum-old-requires-in-loop-old : goal.sum-old-requires-in-loop-old
-sum-old-requires-in-loop-old c = search mine
 
 pub loop-old-smaller : goal.loop-old-smaller
 loop-old-smaller c =

@@ -1,11 +1,7 @@
 -- `columns::patterns_placed` meets its contract.
 -- Assumes nothing.
-use Prim.Native.Nat.{◌-◌}
 use Rattle.columns.specs.Fit.{Every, PatternAt}
 use Rattle.columns.proofs.patterns_placed.Given as goal
 
 abbrev pub invariant-loop-i : goal.invariant-loop-i
 invariant-loop-i l = Every l.i (PatternAt l.kinds l.heads l.counts l.args)
-
-abbrev pub decreases-loop-i : goal.decreases-loop-i
-decreases-loop-i l = l.patterns - l.i

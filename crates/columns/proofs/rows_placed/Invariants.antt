@@ -1,11 +1,7 @@
 -- `columns::rows_placed` meets its contract.
 -- Assumes nothing.
-use Prim.Native.Nat.{◌-◌}
 use Rattle.columns.specs.Fit.{Every, PlacedAt}
 use Rattle.columns.proofs.rows_placed.Given as goal
 
 abbrev pub invariant-loop-i : goal.invariant-loop-i
 invariant-loop-i l = Every l.i (PlacedAt l.counts l.args)
-
-abbrev pub decreases-loop-i : goal.decreases-loop-i
-decreases-loop-i l = l.rows - l.i

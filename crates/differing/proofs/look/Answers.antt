@@ -21,9 +21,6 @@ clashes_ready-b-requires c =
     let s = startable _ _ _ _ _ _ _ _ _ _ c.requires.closed_by in
     record { fit_rows = s.0; orderly = s.1 }
 
-pub mark-requires : goal.mark-requires
-mark-requires c = search mine
-
 pub bounds-known-k-2 : goal.bounds-known-k-2
 bounds-known-k-2 c =
     let l = low _ _ _ _ _ _ _ _ _ _ c.requires.closed_by _ _ c.requires.x_lt_rows in

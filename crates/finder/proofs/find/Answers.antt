@@ -1,28 +1,16 @@
 -- `find` meets its contract: the refusal, or what the search answers to what was read.
 -- Assumes nothing.
-use Rattle.finder.proofs.Judging.{mine}
+use Rattle.finder.proofs.Judging.{find-found, mine}
 use Rattle.finder.proofs.find.Goals as goal
 
-pub rule-p-requires : goal.rule-p-requires
-rule-p-requires c = search mine
+pub hunt_with-r-requires-clause-sound : goal.hunt_with-r-requires-clause-sound
+hunt_with-r-requires-clause-sound c = search mine
 
-pub refused-requires : goal.refused-requires
-refused-requires c = search mine
+pub hunt_with-r-requires-clause-knows : goal.hunt_with-r-requires-clause-knows
+hunt_with-r-requires-clause-knows c = search mine
 
-pub returns-in-Refused : goal.returns-in-Refused
-returns-in-Refused c = search mine
+pub returns-in-Ok : goal.returns-in-Ok
+returns-in-Ok c = record { finds = find-found _ c.in-Ok.l c.in-Ok.ensures _ c.hunt_with-r.ensures.hunts _ c.answered.ensures.answers }
 
-pub lay-l-requires : goal.lay-l-requires
-lay-l-requires c = search mine
-
-pub unknown-known-requires : goal.unknown-known-requires
-unknown-known-requires c = search mine
-
-pub hunt_with-r-requires : goal.hunt_with-r-requires
-hunt_with-r-requires c = search mine
-
-pub answered-requires : goal.answered-requires
-answered-requires c = search mine
-
-pub returns : goal.returns
-returns c = search mine
+pub returns-in-Err : goal.returns-in-Err
+returns-in-Err c = search mine

@@ -1,28 +1,16 @@
 -- `next` meets its contract: the refusal, or what the search answers to what was read and an assignment.
 -- Assumes nothing.
-use Rattle.finder.proofs.Later.{mine}
+use Rattle.finder.proofs.Later.{next-found, mine}
 use Rattle.finder.proofs.next.Goals as goal
 
-pub rule-p-requires : goal.rule-p-requires
-rule-p-requires c = search mine
+pub hunt_after_with-r-requires-clause-sound : goal.hunt_after_with-r-requires-clause-sound
+hunt_after_with-r-requires-clause-sound c = search mine
 
-pub refused-requires : goal.refused-requires
-refused-requires c = search mine
+pub hunt_after_with-r-requires-clause-knows : goal.hunt_after_with-r-requires-clause-knows
+hunt_after_with-r-requires-clause-knows c = search mine
 
-pub returns-in-Refused : goal.returns-in-Refused
-returns-in-Refused c = search mine
+pub returns-in-Ok : goal.returns-in-Ok
+returns-in-Ok c = record { follows = next-found _ c.in-Ok.l c.in-Ok.ensures _ _ c.hunt_after_with-r.ensures.hunts _ c.answered.ensures.answers }
 
-pub lay-l-requires : goal.lay-l-requires
-lay-l-requires c = search mine
-
-pub unknown-known-requires : goal.unknown-known-requires
-unknown-known-requires c = search mine
-
-pub hunt_after_with-r-requires : goal.hunt_after_with-r-requires
-hunt_after_with-r-requires c = search mine
-
-pub answered-requires : goal.answered-requires
-answered-requires c = search mine
-
-pub returns : goal.returns
-returns c = search mine
+pub returns-in-Err : goal.returns-in-Err
+returns-in-Err c = search mine

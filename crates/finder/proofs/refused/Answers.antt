@@ -6,4 +6,4 @@ use Rattle.finder.proofs.refused.Goals as goal
 
 pub returns : goal.returns
 unfolding refused_with
-returns c = refl
+returns c = record { refuses = refl }

@@ -1,20 +1,13 @@
 -- `further::clashes_with` meets its contract. The tests say just that the columns are fit and the table orderly, which the table of a closing is.
 -- Assumes nothing.
 use mathlib.Core.Path.{refl}
-use borrow.Author.Rules.{rules}
 use Rattle.columns.proofs.Deciding.{decides_not}
 use Rattle.further.proofs.Answers.{fit-rows}
 use Rattle.further.proofs.Wider.{clashes-unfit, clashes-stray}
 use Rattle.further.proofs.clashes_with.Goals as goal
 
-pub fit_context-requires : goal.fit_context-requires
-fit_context-requires c = search rules
-
 pub returns-then-not-fit_context : goal.returns-then-not-fit_context
 returns-then-not-fit_context c = record { clashes = clashes-unfit _ _ _ _ _ _ _ _ _ _ _ _ (decides_not c.fit_context.ensures.fit c.if-not-fit_context.true); unfit = λ _. refl }
-
-pub orderly-requires : goal.orderly-requires
-orderly-requires c = search rules
 
 pub returns-then-not-orderly : goal.returns-then-not-orderly
 returns-then-not-orderly c = record { clashes = clashes-stray _ _ _ _ _ _ _ _ _ _ _ _ (decides_not c.orderly.ensures c.if-not-orderly.true); unfit = λ _. refl }

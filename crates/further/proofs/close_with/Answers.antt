@@ -1,19 +1,12 @@
 -- `further::close_with` meets its contract. The tests say just that the columns are fit and one can start; then `settle_with` keeps the promise, and else the table is as it was.
 -- Assumes nothing.
 use mathlib.Core.Path.{refl}
-use borrow.Author.Rules.{rules}
 use Rattle.columns.proofs.Deciding.{decides_not}
 use Rattle.further.proofs.Answers.{fit-rows, furthers-closed}
 use Rattle.further.proofs.close_with.Goals as goal
 
-pub fit_context-requires : goal.fit_context-requires
-fit_context-requires c = search rules
-
 pub returns-then-not-fit_context : goal.returns-then-not-fit_context
 returns-then-not-fit_context c = record { closes = record { so = (λ f s. decides_not c.fit_context.ensures.fit c.if-not-fit_context.true f, refl) } }
-
-pub startable-requires : goal.startable-requires
-startable-requires c = search rules
 
 pub returns-then-not-startable : goal.returns-then-not-startable
 returns-then-not-startable c = record { closes = record { so = (λ f s. decides_not c.startable.ensures c.if-not-startable.true s, refl) } }

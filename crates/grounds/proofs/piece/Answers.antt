@@ -3,5 +3,5 @@
 use Rattle.grounds.proofs.Handing.{piece-comes}
 use Rattle.grounds.proofs.piece.Goals as goal
 
-pub hand-sent-requires : goal.hand-sent-requires
-hand-sent-requires g c = piece-comes _ _ _ _ _ _ _ c.fill-filled.ensures.fills
+pub hand-requires : goal.hand-requires
+hand-requires g c = piece-comes _ _ _ _ _ _ _ c.fill-filled.ensures.fills

@@ -1,19 +1,21 @@
--- `grounds_intake::finish` meets its contract. Each way out is one case of whether a line waits for its feed.
+-- `finish` meets its contract: a line of the grounds that is open is a step.
 -- Assumes nothing.
 use Rattle.grounds_intake.proofs.Ways.{ends}
 use Rattle.grounds_intake.proofs.finish.Goals as goal
+use Rattle.grounds_intake.proofs.finish.Goals.{in-Grounds, in_default, else-matches-via-then-matches+else-q-ne0, else-matches-via-else-matches}
 
-pub returns-then-head-ne4 : goal.returns-then-head-ne4
-returns-then-head-ne4 c = search ends
+pub returns-then-q-ne0 : goal.returns-then-q-ne0
+returns-then-q-ne0 c = record { finishes = elim c.match-matches.branch [ in-Grounds w ↦ search ends | in_default w ↦ absurd (cc) ] }
 
-pub returns-then-line-eq0 : goal.returns-then-line-eq0
-returns-then-line-eq0 c = search ends
-
-pub without_feed-q-requires : goal.without_feed-q-requires
-without_feed-q-requires c = search ends
-
-pub add_step-requires : goal.add_step-requires
-add_step-requires c = search ends
-
-pub returns : goal.returns
-returns c = search ends
+pub returns-else-matches : goal.returns-else-matches
+returns-else-matches c =
+    record {
+      finishes =
+          elim c.match-matches.branch [
+            | in-Grounds w ↦ elim c.else-matches.branch [
+              | else-matches-via-then-matches+else-q-ne0 u ↦ search ends
+              | else-matches-via-else-matches u ↦ absurd (cc)
+            ]
+            | in_default w ↦ search ends
+          ];
+    }

@@ -3,14 +3,26 @@
 use Rattle.grounds_judgement.proofs.Judging.{mine}
 use Rattle.grounds_judgement.proofs.judge.Goals as goal
 
-pub rule-ruled-requires : goal.rule-ruled-requires
-rule-ruled-requires c = search mine
-
-pub returns-in-Refused : goal.returns-in-Refused
-returns-in-Refused c = search mine
-
-pub verdict-judged-requires : goal.verdict-judged-requires
-verdict-judged-requires c = search mine
+pub returns-in_err-ruled : goal.returns-in_err-ruled
+returns-in_err-ruled c = search mine
 
 pub returns : goal.returns
 returns c = search mine
+
+pub rows-requires : goal.rows-requires
+rows-requires c = search mine
+
+pub said-requires : goal.said-requires
+said-requires c = search mine
+
+pub patterns-requires : goal.patterns-requires
+patterns-requires c = search mine
+
+pub literals-requires : goal.literals-requires
+literals-requires c = search mine
+
+pub judge-requires-clause-fit_context : goal.judge-requires-clause-fit_context
+judge-requires-clause-fit_context c = search mine
+
+pub judge-requires-clause-fit_clause : goal.judge-requires-clause-fit_clause
+judge-requires-clause-fit_clause c = search mine

@@ -9,8 +9,5 @@ returns-then-marks-i-eq0 c = search mine
 pub returns-then-cells-p-le2 : goal.returns-then-cells-p-le2
 returns-then-cells-p-le2 c = search mine
 
-pub note_four-requires : goal.note_four-requires
-note_four-requires c = search mine
-
 pub returns : goal.returns
 returns c = search mine

@@ -3,9 +3,6 @@
 use Rattle.grounds_marks.proofs.Marking.{mine}
 use Rattle.grounds_marks.proofs.note.Goals as goal
 
-pub usize_of_u16-i-requires : goal.usize_of_u16-i-requires
-usize_of_u16-i-requires c = search mine
-
 pub returns-then-i-limit : goal.returns-then-i-limit
 returns-then-i-limit c = search mine
 

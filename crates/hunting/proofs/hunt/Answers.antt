@@ -3,12 +3,6 @@
 use Rattle.hunting.proofs.Laying.{hunt-done, mine}
 use Rattle.hunting.proofs.hunt.Goals as goal
 
-pub lay-l-requires : goal.lay-l-requires
-lay-l-requires c = search mine
-
-pub unknown-known-requires : goal.unknown-known-requires
-unknown-known-requires c = search mine
-
 pub hunt_with-requires : goal.hunt_with-requires
 hunt_with-requires c = search mine
 

@@ -1,15 +1,17 @@
+-- `arguments` meets its contract: a column that was all zeros is filled up to the last piece.
+-- Assumes nothing.
+use Prim.Native.Nat.{ℕ}
 use mathlib.Core.Path.{refl}
-use Rattle.layout.proofs.Laying.{arg-place, mine}
+use native.Mathlib.Omega.{arith}
+use lib.ListN.{length-replicate}
+use Rattle.layout.proofs.Laying.{laid-start, arg-next, laid_done, padded}
 use Rattle.layout.proofs.arguments.Goals as goal
 
 pub loop-x-init : goal.loop-x-init
-loop-x-init c = search mine
-
-pub number_in-requires : goal.number_in-requires
-number_in-requires c = arg-place c.args.run.now c.args.size c.args.from c.args.n _ c.loop-x.x c.loop-x-test.true refl c.requires.reaches
+loop-x-init g c = laid-start _ _ _ (omega (arith, c.requires.room, length-replicate {A = ℕ} g.row.N 0))
 
 pub loop-x-preserved : goal.loop-x-preserved
-loop-x-preserved c = search mine
+loop-x-preserved g c = arg-next _ _ _ _ _ _ _ c.loop-x-test.true _ c.number_in.ensures c.loop-x.invariant
 
 pub returns : goal.returns
-returns c = search mine
+returns g c = padded _ _ _ _ _ refl (laid_done _ _ _ _ _ c.loop-x.invariant c.loop-x-test.false)

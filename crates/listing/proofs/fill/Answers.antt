@@ -1,23 +1,19 @@
-use Rattle.listing.proofs.Filling.{mine}
+use Rattle.listing.proofs.Filling.{filling_step, filling-less, filling-stop, filling-wait, mine}
 use Rattle.listing.proofs.fill.Goals as goal
 
-pub loop-l-init : goal.loop-l-init
-loop-l-init c = (search mine, search mine)
+pub returns-then-space-used-clause-fills : goal.returns-then-space-used-clause-fills
+returns-then-space-used-clause-fills c =
+    filling-wait _ _ _ _ _ _ _ _ c.loop-e.invariant.1 c.in-Some.e c.in-Some.ensures.entry_at _ c.as_bytes-line.ensures c.if-space-used.true
 
-pub line_at-e-requires : goal.line_at-e-requires
-line_at-e-requires c = search mine
+pub loop-e-smaller : goal.loop-e-smaller
+loop-e-smaller c =
+    filling-less _ _ _ _ _ _ _ _ c.loop-e.invariant.1 c.in-Some.e c.in-Some.ensures.entry_at _ c.as_bytes-line.ensures c.if-space-used.false _ c.copy_from_slice.ensures.after
 
-pub done-next-requires : goal.done-next-requires
-done-next-requires c = search mine
+pub loop-e-preserved : goal.loop-e-preserved
+loop-e-preserved c = (
+  search mine,
+  filling_step _ _ _ _ _ _ _ _ c.loop-e.invariant.1 c.in-Some.e c.in-Some.ensures.entry_at _ c.as_bytes-line.ensures c.if-space-used.false _ c.copy_from_slice.ensures.after,
+)
 
-pub returns-then-len-eq0 : goal.returns-then-len-eq0
-returns-then-len-eq0 c = record { fills = search mine; lent = search mine }
-
-pub returns-then-space-used : goal.returns-then-space-used
-returns-then-space-used c = record { fills = search mine; lent = search mine }
-
-pub put-requires : goal.put-requires
-put-requires c = search mine
-
-pub loop-l-preserved : goal.loop-l-preserved
-loop-l-preserved c = (search mine, search mine)
+pub returns-clause-fills : goal.returns-clause-fills
+returns-clause-fills c = filling-stop _ _ _ _ _ _ _ _ c.loop-e.invariant.1 c.in_default.ensures.entry_at

@@ -8,8 +8,8 @@ use Rattle.listing.specs.Filling.{Lent}
 use Rattle.listing.proofs.Filling.{Filling}
 use Rattle.listing.proofs.fill.Given as goal
 
-abbrev pub invariant-loop-l : goal.invariant-loop-l
-invariant-loop-l l = Lent l.l l.known × Filling (context_in l.l) l.l.table (rule_in l.l) l.initial.at l.initial.space l.used l.at l.space
+abbrev pub invariant-loop-e : goal.invariant-loop-e
+invariant-loop-e l = Lent l.l l.known × Filling (context_in l.l) l.l.table (rule_in l.l) l.initial.at l.initial.space l.used l.at l.space
 
-abbrev pub decreases-loop-l : goal.decreases-loop-l
-decreases-loop-l l = length l.space - l.used
+abbrev pub decreases-loop-e : goal.decreases-loop-e
+decreases-loop-e l = length l.space - l.used

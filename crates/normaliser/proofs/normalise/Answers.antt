@@ -3,23 +3,23 @@
 use Rattle.normaliser.proofs.Composed.{mine}
 use Rattle.normaliser.proofs.normalise.Goals as goal
 
-pub close-closed-requires : goal.close-closed-requires
-close-closed-requires c = search mine
+pub returns-in_err-told : goal.returns-in_err-told
+returns-in_err-told c = search mine
 
-pub returns-in-Refused : goal.returns-in-Refused
-returns-in-Refused c = search mine
+pub contradicted-requires : goal.contradicted-requires
+contradicted-requires c = search mine
 
-pub overflow_add-x : goal.overflow_add-x
-overflow_add-x c = search mine
+pub returns-in-Some : goal.returns-in-Some
+returns-in-Some c = search mine
 
-pub overflow_cast-x : goal.overflow_cast-x
-overflow_cast-x c = search mine
+pub rows-requires : goal.rows-requires
+rows-requires c = search mine
 
-pub returns-in-First : goal.returns-in-First
-returns-in-First c = search mine
+pub said-requires : goal.said-requires
+said-requires c = search mine
 
-pub write-requires : goal.write-requires
-write-requires c = search mine
+pub write_normal-requires : goal.write_normal-requires
+write_normal-requires c = search mine
 
 pub returns : goal.returns
 returns c = search mine

@@ -1,19 +1,11 @@
 -- `plan::plan_clause` meets its contract.
 -- Assumes nothing.
 use Rattle.columns.proofs.Deciding.{decides_not}
-use Rattle.plan.specs.Plans.{fits}
-use Rattle.plan.proofs.Planning.{plan-unfit}
-use borrow.Author.Rules.{rules}
+use Rattle.plan.specs.Plans.{fits, unfits}
 use Rattle.plan.proofs.plan_clause.Goals as goal
 
-pub fit_clause-requires : goal.fit_clause-requires
-fit_clause-requires c = search rules
-
-pub unfit-requires : goal.unfit-requires
-unfit-requires c = search rules
-
 pub returns-then-not-fit_clause : goal.returns-then-not-fit_clause
-returns-then-not-fit_clause c = plan-unfit c.unfit.ensures (decides_not c.fit_clause.ensures.fit c.if-not-fit_clause.true)
+returns-then-not-fit_clause c = unfits (decides_not c.fit_clause.ensures.fit c.if-not-fit_clause.true)
 
 pub planned-requires : goal.planned-requires
 planned-requires c = record { fit_clause = c.fit_clause.ensures.fit.holds c.if-not-fit_clause.false; written = c.fit_clause.ensures.laid c.if-not-fit_clause.false }

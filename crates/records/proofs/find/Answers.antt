@@ -4,4 +4,4 @@ use Rattle.records.proofs.Alike.{finds-listed}
 use Rattle.records.proofs.find.Goals as goal
 
 pub returns : goal.returns
-returns c = record { finds = finds-listed _ _ _ _ (rw c.listed-t.ensures at c.find_table.ensures.finds) }
+returns c = record { finds = finds-listed _ _ _ _ (rw c.listed.ensures at c.find_table.ensures.finds) }

@@ -4,9 +4,12 @@ use Rattle.records.specs.Layouts.{list_of}
 use Rattle.records.proofs.Room.{room-few, room_fits}
 use Rattle.records.proofs.listed.Goals as goal
 
-pub copied-rows-requires : goal.copied-rows-requires
-copied-rows-requires c = record { n_in_bounds = rw c.within-n.ensures (room-few _); n_le_most_rows = rw c.within-n.ensures (room_fits _) }
+pub copied-requires-clause-n_in_bounds : goal.copied-requires-clause-n_in_bounds
+copied-requires-clause-n_in_bounds c = rw c.within.ensures (room-few _)
+
+pub copied-requires-clause-n_le_most_rows : goal.copied-requires-clause-n_le_most_rows
+copied-requires-clause-n_le_most_rows c = rw c.within.ensures (room_fits _)
 
 pub returns : goal.returns
 unfolding list_of
-returns c = rw (c.copied-rows.ensures, c.blank-none.ensures, c.within-n.ensures)
+returns c = rw (c.copied.ensures, c.blank.ensures, c.within.ensures)

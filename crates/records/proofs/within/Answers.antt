@@ -7,5 +7,5 @@ use Rattle.records.proofs.within.Goals as goal
 pub returns-then-n-gt-ROWS : goal.returns-then-n-gt-ROWS
 returns-then-n-gt-ROWS c = sym (room-none _ c.if-n-gt-ROWS.true)
 
-pub returns : goal.returns
-returns c = sym (room-all _ c.if-n-gt-ROWS.false)
+pub returns-else-n-gt-ROWS : goal.returns-else-n-gt-ROWS
+returns-else-n-gt-ROWS c = sym (room-all _ c.if-n-gt-ROWS.false)

@@ -3,8 +3,5 @@
 use Rattle.reply_lines.proofs.Printing.{mine}
 use Rattle.reply_lines.proofs.none_line.Goals as goal
 
-pub line_of-requires : goal.line_of-requires
-line_of-requires c = search mine
-
 pub returns : goal.returns
 returns c = search mine

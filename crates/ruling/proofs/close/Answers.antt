@@ -3,14 +3,14 @@
 use Rattle.ruling.proofs.Ruling.{mine}
 use Rattle.ruling.proofs.close.Goals as goal
 
-pub read-told-requires : goal.read-told-requires
-read-told-requires c = search mine
+pub rows-requires : goal.rows-requires
+rows-requires c = search mine
 
-pub classes_of-closed-requires : goal.classes_of-closed-requires
-classes_of-closed-requires c = search mine
+pub said-requires : goal.said-requires
+said-requires c = search mine
 
-pub clash_of-clash-requires : goal.clash_of-clash-requires
-clash_of-clash-requires c = search mine
+pub said-requires-2 : goal.said-requires-2
+said-requires-2 c = search mine
 
 pub returns : goal.returns
 returns c = search mine

@@ -3,9 +3,6 @@
 use Rattle.ruling.proofs.Ruling.{mine}
 use Rattle.ruling.proofs.rule.Goals as goal
 
-pub close-closed-requires : goal.close-closed-requires
-close-closed-requires c = search mine
-
 pub answer_for-answer-requires : goal.answer_for-answer-requires
 answer_for-answer-requires c = search mine
 

@@ -1,11 +1,8 @@
 -- `search_pairs::is_live` meets its contract. The bit of x in the last set.
 -- Assumes nothing.
 use borrow.Author.Rules.{rules}
-use Rattle.search_pairs.proofs.Asking.{read_set, read-room, mine}
+use Rattle.search_pairs.proofs.Asking.{read_set, read-room}
 use Rattle.search_pairs.proofs.is_live.Goals as goal
-
-pub start-requires : goal.start-requires
-start-requires c = search mine
 
 pub member-requires : goal.member-requires
 member-requires c = read-room _ _ _ _ _ c.start.ensures (search rules) (search rules) (search rules)

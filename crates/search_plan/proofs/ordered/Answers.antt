@@ -3,9 +3,6 @@
 use Rattle.search_plan.proofs.Planning.{mine}
 use Rattle.search_plan.proofs.ordered.Goals as goal
 
-pub zeros-rows-requires : goal.zeros-rows-requires
-zeros-rows-requires c = search mine
-
 pub arrange-ends-requires : goal.arrange-ends-requires
 arrange-ends-requires c = record { levels_in_bounds = search mine; rows_len_bound = search mine; blank = search mine }
 

@@ -12,8 +12,8 @@ variables-variables-requires c = search mine
 pub level_numbers-levels-requires : goal.level_numbers-levels-requires
 level_numbers-levels-requires c = search mine
 
-pub ordered-arranged-requires : goal.ordered-arranged-requires
-ordered-arranged-requires c = search mine
+pub ordered-requires : goal.ordered-requires
+ordered-requires c = search mine
 
 pub reach_numbers-reach-requires : goal.reach_numbers-reach-requires
 reach_numbers-reach-requires c = search mine

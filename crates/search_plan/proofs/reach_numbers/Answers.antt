@@ -6,9 +6,6 @@ use Rattle.search_plan.proofs.reach_numbers.Goals as goal
 pub pattern_count-n-requires : goal.pattern_count-n-requires
 pattern_count-n-requires c = search mine
 
-pub zeros-run-requires : goal.zeros-run-requires
-zeros-run-requires c = search mine
-
 pub sets-requires : goal.sets-requires
 sets-requires c = record { every = search mine; sets_len = search mine }
 

@@ -4,9 +4,6 @@ use Rattle.search_values.proofs.fill.Goals as goal
 pub loop-i-init : goal.loop-i-init
 loop-i-init c = search mine
 
-pub row_key-requires : goal.row_key-requires
-row_key-requires c = search mine
-
 pub loop-i-preserved : goal.loop-i-preserved
 loop-i-preserved c = search mine
 

@@ -3,11 +3,5 @@
 use Rattle.search_values.proofs.Indexing.{mine}
 use Rattle.search_values.proofs.index.Goals as goal
 
-pub fill-requires : goal.fill-requires
-fill-requires c = search mine
-
-pub sort-requires : goal.sort-requires
-sort-requires c = search mine
-
 pub returns : goal.returns
 returns c = search mine

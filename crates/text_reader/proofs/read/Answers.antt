@@ -1,19 +1,10 @@
 -- `read` meets its contract: a refusal, or what was read.
 -- Assumes nothing.
-use Rattle.text_reader.proofs.Answering.{mine}
+use Rattle.text_reader.proofs.Answering.{reads-taken, reads-refused}
 use Rattle.text_reader.proofs.read.Goals as goal
 
-pub fill-step-requires : goal.fill-step-requires
-fill-step-requires c = search mine
+pub returns-in-Ok : goal.returns-in-Ok
+returns-in-Ok c = record { reads = reads-taken _ c.fill.new.pieces c.in-Ok.s c.in-Ok.ensures.ends _ c.filled.ensures }
 
-pub refused-requires : goal.refused-requires
-refused-requires c = search mine
-
-pub returns-in-Refused : goal.returns-in-Refused
-returns-in-Refused c = search mine
-
-pub numbers_of-filled-requires : goal.numbers_of-filled-requires
-numbers_of-filled-requires c = search mine
-
-pub returns : goal.returns
-returns c = search mine
+pub returns-in-Err : goal.returns-in-Err
+returns-in-Err c = record { reads = reads-refused _ c.fill.new.pieces c.in-Err.x c.in-Err.ensures.ends _ c.refused.ensures }

@@ -3,8 +3,5 @@
 use Rattle.writer.proofs.Made.{mine}
 use Rattle.writer.proofs.bare.Goals as goal
 
-pub no_conclusions-conclusions-requires : goal.no_conclusions-conclusions-requires
-no_conclusions-conclusions-requires c = search mine
-
 pub returns : goal.returns
 returns c = search mine

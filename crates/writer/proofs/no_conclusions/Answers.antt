@@ -1,4 +1,4 @@
--- `writer::no_conclusions` meets its contract. Four arrays of zeros.
+-- `writer::no_conclusions` meets its contract. Arrays of zeros.
 -- Assumes nothing.
 use Rattle.writer.proofs.Made.{mine}
 use Rattle.writer.proofs.no_conclusions.Goals as goal

@@ -3,20 +3,8 @@
 use Rattle.writer.proofs.Seeking.{mine}
 use Rattle.writer.proofs.seek.Goals as goal
 
-pub hunt-r-requires : goal.hunt-r-requires
-hunt-r-requires c = search mine
-
-pub outcome_of-outcome-requires : goal.outcome_of-outcome-requires
-outcome_of-outcome-requires c = search mine
-
-pub shown-requires : goal.shown-requires
-shown-requires c = record { broken = search mine; most_steps_in_bounds = search mine }
-
-pub bare-requires : goal.bare-requires
-bare-requires c = search mine
-
-pub bare-requires-in-Unfit : goal.bare-requires-in-Unfit
-bare-requires-in-Unfit c = search mine
+pub shown-requires-clause-broken : goal.shown-requires-clause-broken
+shown-requires-clause-broken c = search mine
 
 pub returns-in-Breach : goal.returns-in-Breach
 returns-in-Breach c = search mine

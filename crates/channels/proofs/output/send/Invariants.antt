@@ -1,11 +1,8 @@
--- `channels::send` meets its contract. The invariant: no more was taken than there is. A turn leaves fewer bytes, or fewer tries.
+-- `channels::send` meets its contract. The invariant: the writer took the bytes that stand in front of those that are left.
 -- Assumes nothing.
-use Rattle.std.proofs.Common.{◌+◌, ◌-◌, length}
-use Rattle.channels.proofs.Sending.{Sending}
+use Rattle.std.proofs.Common.{◌≡◌, ℕ, List, ◌++◌}
+use Rattle.std.specs.Io.KnownBytes.{Appends}
 use Rattle.channels.proofs.output.send.Given as goal
 
-abbrev pub invariant-loop-done : goal.invariant-loop-done
-invariant-loop-done g l = Sending l.bytes l.done
-
-abbrev pub decreases-loop-done : goal.decreases-loop-done
-decreases-loop-done g l = (length l.bytes - l.done) + l.tries
+abbrev pub invariant-loop : goal.invariant-loop
+invariant-loop g l = (done : List ℕ) × (l.initial.rest ≡ done ++ l.rest) × Appends (g.W.Write.contents l.initial.writer) (g.W.Write.contents l.writer) done

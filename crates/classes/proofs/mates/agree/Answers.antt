@@ -3,17 +3,8 @@
 use Rattle.classes.proofs.Rows.{mine}
 use Rattle.classes.proofs.mates.agree.Goals as goal
 
-pub same_shape-requires : goal.same_shape-requires
-same_shape-requires c = search mine
+pub returns-then-same_shape : goal.returns-then-same_shape
+returns-then-same_shape c = search mine
 
-pub returns-then-not-same_shape : goal.returns-then-not-same_shape
-returns-then-not-same_shape c = search mine
-
-pub count_in-requires : goal.count_in-requires
-count_in-requires c = search mine
-
-pub same_args-requires : goal.same_args-requires
-same_args-requires c = search mine
-
-pub returns : goal.returns
-returns c = search mine
+pub returns-else-same_shape : goal.returns-else-same_shape
+returns-else-same_shape c = search mine

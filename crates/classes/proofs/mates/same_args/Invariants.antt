@@ -1,11 +1,7 @@
 -- `classes::mates::same_args` meets its contract. The invariant: the first k arguments have the same representatives.
 -- Assumes nothing.
 use Rattle.classes.proofs.Rows.{Agreeing}
-use Prim.Native.Nat.{◌-◌}
 use Rattle.classes.proofs.mates.same_args.Given as goal
 
 abbrev pub invariant-loop-k : goal.invariant-loop-k
 invariant-loop-k l = Agreeing l.rows l.table l.i l.j l.count l.k
-
-abbrev pub decreases-loop-k : goal.decreases-loop-k
-decreases-loop-k l = l.count - l.k

@@ -3,26 +3,8 @@
 use Rattle.classes.proofs.Clashes.{mine}
 use Rattle.classes.proofs.statements.apart_at.Goals as goal
 
-pub kind_in-requires : goal.kind_in-requires
-kind_in-requires c = search mine
+pub returns-then-not-is_equation : goal.returns-then-not-is_equation
+returns-then-not-is_equation c = search mine
 
-pub returns-then-kind_in-eq2 : goal.returns-then-kind_in-eq2
-returns-then-kind_in-eq2 c = search mine
-
-pub left_in-requires : goal.left_in-requires
-left_in-requires c = search mine
-
-pub at_row-requires : goal.at_row-requires
-at_row-requires c = search mine
-
-pub right_in-requires : goal.right_in-requires
-right_in-requires c = search mine
-
-pub at_row-requires-2 : goal.at_row-requires-2
-at_row-requires-2 c = search mine
-
-pub either-requires : goal.either-requires
-either-requires c = search mine
-
-pub returns : goal.returns
-returns c = search mine
+pub returns-else-not-is_equation : goal.returns-else-not-is_equation
+returns-else-not-is_equation c = search mine

@@ -1,13 +1,9 @@
 -- `classes::statements::join_stated` meets its contract. The invariant: the first k statements are done.
 -- Assumes nothing.
-use Prim.Native.Nat.{◌-◌}
 use Rattle.classes.proofs.Stated.{Stating}
 use Rattle.runs.specs.Runs.{said_count}
 use Rattle.classes.specs.Steps.{state_step}
 use Rattle.classes.proofs.statements.join_stated.Given as goal
 
 abbrev pub invariant-loop-k : goal.invariant-loop-k
-invariant-loop-k l = Stating (state_step l.said) (said_count l.said) l.n l.initial.table l.table l.k
-
-abbrev pub decreases-loop-k : goal.decreases-loop-k
-decreases-loop-k l = l.n - l.k
+invariant-loop-k l = Stating (state_step l.said) (said_count l.said) l.k-end l.initial.table l.table l.k

@@ -4,12 +4,6 @@ use borrow.Author.Rules.{rules}
 use Rattle.classes.proofs.Tables.{move-part, mine}
 use Rattle.classes.proofs.table.move_class.Goals as goal
 
-pub usize_of_u16-first-requires : goal.usize_of_u16-first-requires
-usize_of_u16-first-requires c = search mine
-
-pub move_all-requires : goal.move_all-requires
-move_all-requires c = search mine
-
 pub returns-then-first-table : goal.returns-then-first-table
 returns-then-first-table c = search (rules, move-part)
 

@@ -1,11 +1,5 @@
 use Rattle.classes.proofs.Tables.{mine}
 use Rattle.classes.proofs.table.number.Goals as goal
 
-pub loop-i-init : goal.loop-i-init
-loop-i-init c = search mine
-
-pub loop-i-preserved : goal.loop-i-preserved
-loop-i-preserved c = search mine
-
 pub returns : goal.returns
 returns c = search mine

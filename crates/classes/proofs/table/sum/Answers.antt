@@ -1,14 +1,10 @@
-use Rattle.classes.proofs.Tables.{mine}
+use Rattle.classes.proofs.Tables.{mine, summing-next}
+use native.Mathlib.Omega.{arith}
 use Rattle.classes.proofs.table.sum.Goals as goal
 
-pub loop-r-init : goal.loop-r-init
-loop-r-init c = search mine
+pub loop-place-init : goal.loop-place-init
+loop-place-init c = search mine
 
-pub u32_of_u16-s-requires : goal.u32_of_u16-s-requires
-u32_of_u16-s-requires c = search mine
-
-pub loop-r-preserved : goal.loop-r-preserved
-loop-r-preserved c = search mine
-
-pub returns : goal.returns
-returns c = search mine
+pub loop-place-preserved : goal.loop-place-preserved
+loop-place-preserved c =
+    summing-next c.loop-place.invariant c.loop-place-test.true c.from-s.ensures (omega (arith, c.from-s.ensures, c.type_inv.table c.loop-place.place-index))

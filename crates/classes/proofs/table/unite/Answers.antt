@@ -4,18 +4,6 @@ use borrow.Author.Rules.{rules}
 use Rattle.classes.proofs.Tables.{merge-same, mine}
 use Rattle.classes.proofs.table.unite.Goals as goal
 
-pub at_row-a-requires : goal.at_row-a-requires
-at_row-a-requires c = search mine
-
-pub at_row-b-requires : goal.at_row-b-requires
-at_row-b-requires c = search mine
-
-pub move_class-requires : goal.move_class-requires
-move_class-requires c = search mine
-
-pub move_class-requires-then-b-a : goal.move_class-requires-then-b-a
-move_class-requires-then-b-a c = search mine
-
 pub returns-then-a-b : goal.returns-then-a-b
 returns-then-a-b c = search mine
 

@@ -1,16 +1,10 @@
--- `closing::mates::join_row` meets its contract. Either there is no mate and the table stays, or the two classes are merged.
+-- `mates::join_row` meets its contract.
 -- Assumes nothing.
-use Rattle.closing.proofs.Chains.{mine}
+use Rattle.closing.proofs.Chains.{joined-none, joined-mate}
 use Rattle.closing.proofs.mates.join_row.Goals as goal
 
-pub mate-at-requires : goal.mate-at-requires
-mate-at-requires c = search mine
+pub returns-in-Some : goal.returns-in-Some
+returns-in-Some c = joined-mate _ _ _ _ _ _ _ _ c.mate.ensures c.in-Some.is c.unite.ensures
 
-pub unite-requires : goal.unite-requires
-unite-requires c = search mine
-
-pub returns-then-at-gt0 : goal.returns-then-at-gt0
-returns-then-at-gt0 c = search mine
-
-pub returns-else-at-gt0 : goal.returns-else-at-gt0
-returns-else-at-gt0 c = search mine
+pub returns-in_default : goal.returns-in_default
+returns-in_default c = joined-none _ _ _ _ _ _ c.mate.ensures c.in_default.is

@@ -5,7 +5,7 @@ use Rattle.closing.proofs.Chains.{Seeking}
 use Rattle.closing.proofs.mates.mate.Given as goal
 
 abbrev pub invariant-loop-at : goal.invariant-loop-at
-invariant-loop-at l = Seeking (rows_from l.symbols l.counts l.args l.rows) l.table l.next l.i l.head l.at
+invariant-loop-at l = Seeking (rows_from l.terms.symbols.now l.terms.counts.now l.terms.args.now l.terms.rows) l.table l.next l.i l.head l.at
 
 abbrev pub decreases-loop-at : goal.decreases-loop-at
 decreases-loop-at l = l.at

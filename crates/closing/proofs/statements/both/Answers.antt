@@ -3,8 +3,8 @@
 use Rattle.closing.proofs.Clashes.{mine}
 use Rattle.closing.proofs.statements.both.Goals as goal
 
+pub returns-else-a-p : goal.returns-else-a-p
+returns-else-a-p c = search mine
+
 pub returns-then-a-p : goal.returns-then-a-p
 returns-then-a-p c = search mine
-
-pub returns : goal.returns
-returns c = search mine

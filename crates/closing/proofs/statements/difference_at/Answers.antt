@@ -3,9 +3,6 @@
 use Rattle.closing.proofs.Clashes.{mine}
 use Rattle.closing.proofs.statements.difference_at.Goals as goal
 
-pub kind_at-requires : goal.kind_at-requires
-kind_at-requires c = search mine
-
 pub returns-then-kind_at-eq2 : goal.returns-then-kind_at-eq2
 returns-then-kind_at-eq2 c = search mine
 

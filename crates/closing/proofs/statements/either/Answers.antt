@@ -3,14 +3,8 @@
 use Rattle.closing.proofs.Clashes.{mine}
 use Rattle.closing.proofs.statements.either.Goals as goal
 
-pub both-requires : goal.both-requires
-both-requires c = search mine
-
 pub returns-then-both : goal.returns-then-both
 returns-then-both c = search mine
 
-pub both-requires-2 : goal.both-requires-2
-both-requires-2 c = search mine
-
-pub returns : goal.returns
-returns c = search mine
+pub returns-else-both : goal.returns-else-both
+returns-else-both c = search mine

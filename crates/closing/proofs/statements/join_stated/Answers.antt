@@ -4,11 +4,5 @@ use Rattle.closing.proofs.statements.join_stated.Goals as goal
 pub loop-k-init : goal.loop-k-init
 loop-k-init c = search mine
 
-pub state-requires : goal.state-requires
-state-requires c = search mine
-
 pub loop-k-preserved : goal.loop-k-preserved
 loop-k-preserved c = search mine
-
-pub returns : goal.returns
-returns c = search mine

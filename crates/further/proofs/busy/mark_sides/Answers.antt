@@ -4,11 +4,5 @@ use Rattle.further.proofs.busy.mark_sides.Goals as goal
 pub loop-k-init : goal.loop-k-init
 loop-k-init c = search mine
 
-pub mark_statement-requires : goal.mark_statement-requires
-mark_statement-requires c = search mine
-
 pub loop-k-preserved : goal.loop-k-preserved
 loop-k-preserved c = search mine
-
-pub returns : goal.returns
-returns c = search mine

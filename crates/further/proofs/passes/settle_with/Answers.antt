@@ -3,9 +3,6 @@
 use Rattle.further.proofs.Turns.{mine}
 use Rattle.further.proofs.passes.settle_with.Goals as goal
 
-pub unite-requires : goal.unite-requires
-unite-requires c = search mine
-
 pub turns-requires : goal.turns-requires
 turns-requires c = search mine
 

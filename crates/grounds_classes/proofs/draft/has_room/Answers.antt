@@ -3,12 +3,6 @@
 use Rattle.grounds_classes.proofs.Drafting.{mine}
 use Rattle.grounds_classes.proofs.draft.has_room.Goals as goal
 
-pub step_count-requires : goal.step_count-requires
-step_count-requires c = search mine
-
-pub usize_of_u16-n-requires : goal.usize_of_u16-n-requires
-usize_of_u16-n-requires c = search mine
-
 pub returns-then-n-lt-NUMBERS : goal.returns-then-n-lt-NUMBERS
 returns-then-n-lt-NUMBERS c = search mine
 

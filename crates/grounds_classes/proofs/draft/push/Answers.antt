@@ -3,17 +3,11 @@
 use Rattle.grounds_classes.proofs.Drafting.{mine}
 use Rattle.grounds_classes.proofs.draft.push.Goals as goal
 
-pub has_room-requires : goal.has_room-requires
-has_room-requires c = search mine
-
 pub returns-then-not-has_room : goal.returns-then-not-has_room
 returns-then-not-has_room c = search mine
 
 pub bounds-cells-0 : goal.bounds-cells-0
 bounds-cells-0 c = search mine
-
-pub usize_of_u16-n-requires : goal.usize_of_u16-n-requires
-usize_of_u16-n-requires c = search mine
 
 pub bounds-cells-p : goal.bounds-cells-p
 bounds-cells-p c = search mine

@@ -3,9 +3,6 @@
 use Rattle.grounds_classes.proofs.Rounding.{siding}
 use Rattle.grounds_classes.proofs.sides.right_at.Goals as goal
 
-pub pair_count-requires : goal.pair_count-requires
-pair_count-requires c = search siding
-
 pub returns-then-i-pair_count : goal.returns-then-i-pair_count
 returns-then-i-pair_count c = search siding
 

@@ -3,9 +3,6 @@
 use Rattle.grounds_verdict.proofs.Assigning.{mine}
 use Rattle.grounds_verdict.proofs.assignment.assigned.Goals as goal
 
-pub usize_of_u16-requires : goal.usize_of_u16-requires
-usize_of_u16-requires c = search mine
-
 pub returns-then-v-lt-VARIABLES : goal.returns-then-v-lt-VARIABLES
 returns-then-v-lt-VARIABLES c = search mine
 

@@ -1,23 +1,22 @@
-use Rattle.grounds_verdict.proofs.Assigning.{mine}
+use native.Mathlib.Omega.{arith}
+use Rattle.grounds_verdict.proofs.Assigning.{mine, counting-more, counting-same}
 use Rattle.grounds_verdict.proofs.assignment.variables.Goals as goal
-
-pub pattern_count-m-requires : goal.pattern_count-m-requires
-pattern_count-m-requires c = search mine
+use Rattle.grounds_verdict.proofs.assignment.variables.Goals.{then-is_variable, else-is_variable}
 
 pub loop-p-init : goal.loop-p-init
 loop-p-init c = search mine
 
-pub pattern_kind_in-requires : goal.pattern_kind_in-requires
-pattern_kind_in-requires c = search mine
-
-pub head_in-requires : goal.head_in-requires
-head_in-requires c = search mine
-
-pub reached-n-requires : goal.reached-n-requires
-reached-n-requires c = search mine
-
 pub loop-p-preserved : goal.loop-p-preserved
-loop-p-preserved c = search mine
+loop-p-preserved c =
+    elim c.if-is_variable.branch [
+      | then-is_variable w ↦
+          rw w.n-is
+          (counting-more c.args.patterns.now c.loop-p.p c.loop-p.n c.loop-p.invariant (omega arith) c.is_variable.result c.is_variable.ensures w.head_in.result w.from.result w.max-n.result
+          w.if-is_variable.true w.head_in.ensures w.from.ensures w.max-n.ensures)
+      | else-is_variable w ↦
+          rw w.n-is
+          (counting-same c.args.patterns.now c.loop-p.p c.loop-p.n c.loop-p.invariant (omega arith) c.is_variable.result c.is_variable.ensures w.if-is_variable.false)
+    ]
 
 pub returns : goal.returns
 returns c = search mine

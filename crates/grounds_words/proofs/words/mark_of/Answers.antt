@@ -3,11 +3,8 @@
 use Rattle.grounds_words.proofs.Wording.{mine}
 use Rattle.grounds_words.proofs.words.mark_of.Goals as goal
 
-pub usize_of_u16-i-requires : goal.usize_of_u16-i-requires
-usize_of_u16-i-requires c = search mine
+pub returns-then-from-rows : goal.returns-then-from-rows
+returns-then-from-rows c = search mine
 
-pub returns-then-i-rows : goal.returns-then-i-rows
-returns-then-i-rows c = search mine
-
-pub returns-else-i-rows : goal.returns-else-i-rows
-returns-else-i-rows c = search mine
+pub returns-else-from-rows : goal.returns-else-from-rows
+returns-else-from-rows c = search mine

@@ -3,9 +3,6 @@
 use Rattle.grounds_words.proofs.Wording.{mine}
 use Rattle.grounds_words.proofs.words.new_in.Goals as goal
 
-pub new_of-requires : goal.new_of-requires
-new_of-requires c = search mine
-
 pub returns-then-kind-le2 : goal.returns-then-kind-le2
 returns-then-kind-le2 c = search mine
 

@@ -3,9 +3,6 @@
 use Rattle.grounds_words.proofs.Wording.{mine}
 use Rattle.grounds_words.proofs.words.row_of.Goals as goal
 
-pub usize_of_u16-i-requires : goal.usize_of_u16-i-requires
-usize_of_u16-i-requires c = search mine
-
 pub returns-then-i-rows : goal.returns-then-i-rows
 returns-then-i-rows c = search mine
 

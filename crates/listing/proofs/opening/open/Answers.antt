@@ -3,17 +3,11 @@
 use Rattle.listing.proofs.Output.{mine}
 use Rattle.listing.proofs.opening.open.Goals as goal
 
-pub rule-p-requires : goal.rule-p-requires
-rule-p-requires c = search mine
+pub lay-laid-requires-clause-filled : goal.lay-laid-requires-clause-filled
+lay-laid-requires-clause-filled c = search mine
 
-pub limit-answer-requires : goal.limit-answer-requires
-limit-answer-requires c = search mine
-
-pub begin-h-requires : goal.begin-h-requires
-begin-h-requires c = search mine
-
-pub lay-laid-requires : goal.lay-laid-requires
-lay-laid-requires c = search mine
+pub lay-laid-requires-clause-ready : goal.lay-laid-requires-clause-ready
+lay-laid-requires-clause-ready c = search mine
 
 pub returns : goal.returns
 returns c = search mine

@@ -4,11 +4,5 @@ use Rattle.normaliser.proofs.normal.joins_length.Goals as goal
 pub loop-i-init : goal.loop-i-init
 loop-i-init c = search mine
 
-pub join_length-sum-requires : goal.join_length-sum-requires
-join_length-sum-requires c = search mine
-
 pub loop-i-preserved : goal.loop-i-preserved
 loop-i-preserved c = search mine
-
-pub returns : goal.returns
-returns c = search mine

@@ -1,9 +1,6 @@
 use Rattle.normaliser.proofs.Pairs.{mine}
 use Rattle.normaliser.proofs.normal.put_joins.Goals as goal
 
-pub loop-i-init : goal.loop-i-init
-loop-i-init c = search mine
-
 pub put_join-to-requires : goal.put_join-to-requires
 put_join-to-requires c = search mine
 

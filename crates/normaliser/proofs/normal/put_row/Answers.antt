@@ -3,12 +3,6 @@
 use Rattle.normaliser.proofs.Rows.{mine}
 use Rattle.normaliser.proofs.normal.put_row.Goals as goal
 
-pub row_fields-fields-requires : goal.row_fields-fields-requires
-row_fields-fields-requires c = search mine
-
-pub count_in-n-requires : goal.count_in-n-requires
-count_in-n-requires c = search mine
-
 pub put_frame-requires : goal.put_frame-requires
 put_frame-requires c = search mine
 

@@ -3,11 +3,11 @@
 use Rattle.normaliser.proofs.Whole.{mine}
 use Rattle.normaliser.proofs.normal.write_with.Goals as goal
 
-pub sorted_keys-n-requires : goal.sorted_keys-n-requires
-sorted_keys-n-requires c = search mine
+pub sorted_keys-n-requires-clause-keyable : goal.sorted_keys-n-requires-clause-keyable
+sorted_keys-n-requires-clause-keyable c = search mine
 
-pub text_length-length-requires : goal.text_length-length-requires
-text_length-length-requires c = search mine
+pub text_length-length-requires-clause-rows_fit : goal.text_length-length-requires-clause-rows_fit
+text_length-length-requires-clause-rows_fit c = search mine
 
 pub returns-then-lent-length : goal.returns-then-lent-length
 returns-then-lent-length c = search mine

@@ -1,17 +1,14 @@
+use mathlib.Core.Path.{refl}
 use mathlib.Core.Path.{◌≡◌, subst}
 use Rattle.meaning.specs.Columns.{patterns_from}
 use Rattle.meaning.specs.Values.{levels as levels_of}
 use Rattle.plan.specs.Planning.{Levelled}
 use Rattle.plan.proofs.Levels.{rule-row, levels-start, levels-next}
-use borrow.Author.Rules.{rules}
 use native.Mathlib.Omega.{arith}
 use Rattle.plan.proofs.level.levels.Goals as goal
 
-pub zeros-levels-requires : goal.zeros-levels-requires
-zeros-levels-requires c = search rules
-
 pub loop-i-init : goal.loop-i-init
-loop-i-init c = (omega arith, levels-start _ _ _ _ _ c.zeros-levels.ensures)
+loop-i-init c = (omega arith, levels-start _ _ _ _ _ refl)
 
 pub level-requires : goal.level-requires
 level-requires c = rule-row c.requires _ c.loop-i-test.true
@@ -23,4 +20,4 @@ pub loop-i-preserved : goal.loop-i-preserved
 loop-i-preserved c = (omega arith, levels-next _ _ _ _ _ _ _ (omega (arith, c.requires.few)) c.loop-i.invariant.1 c.level.ensures)
 
 pub returns : goal.returns
-returns c = let e : c.loop-i.i ≡ c.args.patterns = omega arith in subst (λ n. Levelled (levels_of (patterns_from c.args.shapes.now c.args.heads.now c.args.arities.now c.args.subs.now n)) c.loop-i.levels) e c.loop-i.invariant.1
+returns c = let e : c.loop-i.i ≡ c.args.patterns.now.rows = omega arith in subst (λ n. Levelled (levels_of (patterns_from c.args.patterns.now.kinds.now c.args.patterns.now.heads.now c.args.patterns.now.counts.now c.args.patterns.now.args.now n)) c.loop-i.levels) e c.loop-i.invariant.1

@@ -2,7 +2,6 @@ use mathlib.Core.Path.{◌≡◌, ap, ◌∙◌}
 use Rattle.meaning.specs.Rules.{variables}
 use Rattle.meaning.specs.Columns.{patterns_from}
 use Rattle.plan.proofs.Levels.{variables-start, variables-next}
-use borrow.Author.Rules.{rules}
 use native.Mathlib.Omega.{arith}
 use Rattle.plan.proofs.level.variables.Goals as goal
 
@@ -12,11 +11,8 @@ loop-i-init c = (omega arith, variables-start _ _ _ _)
 pub reached-requires : goal.reached-requires
 reached-requires c = (omega (arith, c.requires.few), (c.requires.written.placed.each _ c.loop-i-test.true).variable)
 
-pub more-most-requires : goal.more-most-requires
-more-most-requires c = search rules
-
 pub loop-i-preserved : goal.loop-i-preserved
-loop-i-preserved c = (omega arith, variables-next _ _ _ _ _ _ _ _ c.loop-i.invariant.1 c.reached.ensures c.more-most.ensures)
+loop-i-preserved c = (omega arith, variables-next _ _ _ _ _ _ _ _ c.loop-i.invariant.1 c.reached.ensures c.max-most.ensures)
 
 pub returns : goal.returns
-returns c = let e : c.loop-i.i ≡ c.args.patterns = omega arith in c.loop-i.invariant.1 ∙ ap (λ x. variables (patterns_from c.args.shapes.now c.args.heads.now c.args.arities.now c.args.subs.now x)) e
+returns c = let e : c.loop-i.i ≡ c.args.patterns.now.rows = omega arith in c.loop-i.invariant.1 ∙ ap (λ x. variables (patterns_from c.args.patterns.now.kinds.now c.args.patterns.now.heads.now c.args.patterns.now.counts.now c.args.patterns.now.args.now x)) e

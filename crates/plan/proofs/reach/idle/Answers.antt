@@ -1,10 +1,12 @@
 -- `plan::reach::idle` meets its contract.
 -- Assumes nothing.
 use Rattle.plan.proofs.Reaching.{idle-unequal, idle-equal}
+use mathlib.Core.Path.{◌∙◌}
+use borrow.Author.Tests.{ne_eqb}
 use Rattle.plan.proofs.reach.idle.Goals as goal
 
-pub returns-then-sign-ne6 : goal.returns-then-sign-ne6
-returns-then-sign-ne6 c = idle-unequal _ _ _ c.if-sign-ne6.true
+pub returns-then-sign-eq6 : goal.returns-then-sign-eq6
+returns-then-sign-eq6 c = idle-equal _ _ _ c.if-sign-eq6.true
 
-pub returns : goal.returns
-returns c = idle-equal _ _ _ c.if-sign-ne6.false
+pub returns-else-sign-eq6 : goal.returns-else-sign-eq6
+returns-else-sign-eq6 c = ne_eqb _ _ c.if-sign-eq6.false ∙ idle-unequal _ _ _ c.if-sign-eq6.false

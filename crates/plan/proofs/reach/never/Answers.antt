@@ -1,14 +1,10 @@
 use mathlib.Core.Path.{sym, ◌∙◌}
 use Rattle.columns.proofs.Deciding.{every-none, every_more}
 use Rattle.plan.proofs.Reaching.{never-none, never-some}
-use borrow.Author.Rules.{rules}
 use Rattle.plan.proofs.reach.never.Goals as goal
 
 pub loop-l-init : goal.loop-l-init
 loop-l-init c = every-none
-
-pub self_unequal-requires : goal.self_unequal-requires
-self_unequal-requires c = search rules
 
 pub returns-then-self_unequal : goal.returns-then-self_unequal
 returns-then-self_unequal c = never-some _ _ _ _ _ c.loop-l-test.true (sym c.self_unequal.ensures ∙ c.if-self_unequal.true)

@@ -1,6 +1,5 @@
 -- `plan::reach::none_reaches` meets its contract.
 -- Assumes nothing.
-use Prim.Native.Nat.{◌-◌}
 use mathlib.Core.Bool.{false}
 use mathlib.Core.Path.{◌≡◌}
 use Rattle.columns.specs.Fit.{Every}
@@ -9,7 +8,4 @@ use Rattle.plan.specs.Marks.{reaches}
 use Rattle.plan.proofs.reach.none_reaches.Given as goal
 
 abbrev pub invariant-loop-l : goal.invariant-loop-l
-invariant-loop-l l = Every l.l (λ j. reaches l.marks (literal_at l.signs l.firsts l.seconds j) ≡ false)
-
-abbrev pub decreases-loop-l : goal.decreases-loop-l
-decreases-loop-l l = l.literals - l.l
+invariant-loop-l l = Every l.l (λ j. reaches l.marks (literal_at l.literals.signs.now l.literals.lefts.now l.literals.rights.now j) ≡ false)

@@ -1,11 +1,7 @@
 -- `many` meets its contract: all, or one more than the most.
 -- Assumes nothing.
-use native.Mathlib.Omega.{arith}
 use Rattle.records.proofs.Filling.{mine}
 use Rattle.records.proofs.laying.many.Goals as goal
 
-pub returns-then-most-count : goal.returns-then-most-count
-returns-then-most-count c = (search mine, omega arith)
-
 pub returns : goal.returns
-returns c = (search mine, omega arith)
+returns c = search mine

@@ -7,7 +7,4 @@ use Rattle.records.proofs.Filling.{Laying}
 use Rattle.records.proofs.laying.rows_run.Given as goal
 
 abbrev pub invariant-loop-i : goal.invariant-loop-i
-invariant-loop-i l = Laying (row_piece l.rows) row_size most_rows l.n l.run l.i
-
-abbrev pub decreases-loop-i : goal.decreases-loop-i
-decreases-loop-i l = l.n - l.i
+invariant-loop-i l = Laying (row_piece l.rows) row_size most_rows l.i-end l.run l.i

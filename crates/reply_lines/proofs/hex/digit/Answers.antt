@@ -1,4 +1,4 @@
--- `reply_lines::hex::digit` meets its contract: below ten a digit starts at 48, and from ten on at 55.
+-- `reply_lines::hex::digit` meets its contract: below ten a digit starts at 48, and from ten on at 65.
 -- Assumes nothing.
 use Rattle.reply_lines.proofs.Lines.{mine}
 use Rattle.reply_lines.proofs.hex.digit.Goals as goal

@@ -4,9 +4,6 @@ use Rattle.reply_lines.proofs.hex.put_frame.Goals as goal
 pub loop-k-init : goal.loop-k-init
 loop-k-init c = search mine
 
-pub put_byte-requires : goal.put_byte-requires
-put_byte-requires c = search mine
-
 pub loop-k-preserved : goal.loop-k-preserved
 loop-k-preserved c = search mine
 

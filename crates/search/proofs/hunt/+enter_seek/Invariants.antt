@@ -3,24 +3,23 @@
 -- Assumes nothing.
 use Prim.Native.Nat.{◌+◌, ◌-◌, ◌*◌, ◌<◌}
 use Rattle.meaning.specs.Equality.{rep_at}
-use Rattle.meaning.specs.Columns.{rows_from, patterns_from, literals_from, context_from}
-use Rattle.meaning.specs.Following.{differ_by}
+use Rattle.columns.specs.Lent.{context_in}
 use Rattle.differing.specs.Knowing.{Knows}
-use Rattle.search.specs.Hunting.{stage_of, dead_of, rows_of, attempt_of, hunt_of}
+use Rattle.search.specs.Hunting.{attempt_of, hunt_of}
+use Rattle.search.specs.Lent.{stage_in, dead_in, rows_for, hunt_in}
 use Rattle.search.proofs.Hunting.{Trying}
 use Rattle.search.proofs.hunt.+enter_seek.Given as goal
 
 abbrev pub decreases-enter : goal.decreases-enter
-decreases-enter l = (l.variables - l.k) * 2 + 1
+decreases-enter l = (l.hunt.now.variables - l.k) * 2 + 1
 
 abbrev pub decreases-seek : goal.decreases-seek
-decreases-seek l = (l.variables - l.k) * 2
+decreases-seek l = (l.hunt.now.variables - l.k) * 2
 
 abbrev pub invariant-seek-loop-i : goal.invariant-seek-loop-i
 invariant-seek-loop-i l =
-    (l.k < l.variables)
-    × Knows (context_from l.symbols l.counts l.args l.rows l.kinds l.lefts l.rights l.statements) l.known
-    × Trying (rep_at l.table) l.rows (attempt_of (stage_of (rows_from l.symbols l.counts l.args l.rows) (rep_at l.table) (patterns_from l.shapes l.heads l.arities l.subs l.patterns) l.order l.ends) (dead_of (differ_by (context_from l.symbols l.counts l.args l.rows l.kinds l.lefts l.rights l.statements)) l.levels (literals_from l.signs l.firsts l.seconds l.literals)) (hunt_of (stage_of (rows_from l.symbols l.counts l.args l.rows) (rep_at l.table) (patterns_from l.shapes l.heads l.arities l.subs l.patterns) l.order l.ends) (dead_of (differ_by (context_from l.symbols l.counts l.args l.rows l.kinds l.lefts l.rights l.statements)) l.levels (literals_from l.signs l.firsts l.seconds l.literals)) (rows_of (rep_at l.table) l.rows l.free l.from) (l.variables - (l.k + 1)) (l.k + 1)) l.k l.chosen l.values) l.alone (hunt_of (stage_of (rows_from l.symbols l.counts l.args l.rows) (rep_at l.table) (patterns_from l.shapes l.heads l.arities l.subs l.patterns) l.order l.ends) (dead_of (differ_by (context_from l.symbols l.counts l.args l.rows l.kinds l.lefts l.rights l.statements)) l.levels (literals_from l.signs l.firsts l.seconds l.literals)) (rows_of (rep_at l.table) l.rows l.free l.from) (l.variables - l.k) l.k l.chosen l.values) l.i
-
-abbrev pub decreases-seek-loop-i : goal.decreases-seek-loop-i
-decreases-seek-loop-i l = l.rows - l.i
+    (l.k < l.hunt.variables)
+    × Knows (context_in l.hunt.classed.context) l.known
+    × Trying (rep_at l.table) l.rows
+    (attempt_of (stage_in l.hunt) (dead_in l.hunt) (hunt_of (stage_in l.hunt) (dead_in l.hunt) (rows_for l.hunt) (l.hunt.variables - (l.k + 1)) (l.k + 1)) l.k l.chosen l.values) l.alone
+    (hunt_in l.hunt l.k l.chosen l.values) l.i

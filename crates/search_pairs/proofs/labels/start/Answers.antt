@@ -2,11 +2,8 @@
 -- Assumes nothing.
 use mathlib.Core.Path.{refl}
 use borrow.Author.Rules.{rules}
-use Rattle.search_pairs.proofs.Joining.{set-start, mine}
+use Rattle.search_pairs.proofs.Joining.{set-start}
 use Rattle.search_pairs.proofs.labels.start.Goals as goal
-
-pub words-requires : goal.words-requires
-words-requires c = search mine
 
 pub returns : goal.returns
 returns c = set-start _ _ _ _ (search rules) (search rules) c.words.ensures refl

@@ -3,11 +3,5 @@
 use Rattle.search_pairs.proofs.Recalling.{mine}
 use Rattle.search_pairs.proofs.memo.put_pair.Goals as goal
 
-pub put-requires : goal.put-requires
-put-requires c = search mine
-
-pub put-requires-2 : goal.put-requires-2
-put-requires-2 c = search mine
-
 pub returns : goal.returns
 returns c = search mine

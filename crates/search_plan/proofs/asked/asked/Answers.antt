@@ -1,14 +1,8 @@
 use Rattle.search_plan.proofs.Literals.{mine}
 use Rattle.search_plan.proofs.asked.asked.Goals as goal
 
-pub literal_count-n-requires : goal.literal_count-n-requires
-literal_count-n-requires c = search mine
-
 pub loop-l-init : goal.loop-l-init
 loop-l-init c = search mine
-
-pub sides-all-requires : goal.sides-all-requires
-sides-all-requires c = search mine
 
 pub loop-l-preserved : goal.loop-l-preserved
 loop-l-preserved c = search mine

@@ -1,11 +1,7 @@
 -- `search_plan::asked::asked` meets its contract.
 -- Assumes nothing.
-use Prim.Native.Nat.{◌-◌}
 use Rattle.search_plan.proofs.Literals.{Reached}
 use Rattle.search_plan.proofs.asked.asked.Given as goal
 
 abbrev pub invariant-loop-l : goal.invariant-loop-l
 invariant-loop-l l = Reached l.literals l.sets l.n l.all l.l
-
-abbrev pub decreases-loop-l : goal.decreases-loop-l
-decreases-loop-l l = l.n - l.l

@@ -3,8 +3,8 @@
 use Rattle.search_plan.proofs.Literals.{mine}
 use Rattle.search_plan.proofs.asked.idle.Goals as goal
 
-pub returns-then-sign-ne6 : goal.returns-then-sign-ne6
-returns-then-sign-ne6 c = search mine
+pub returns-then-is_equal : goal.returns-then-is_equal
+returns-then-is_equal c = search mine
 
-pub returns : goal.returns
-returns c = search mine
+pub returns-else-is_equal : goal.returns-else-is_equal
+returns-else-is_equal c = search mine

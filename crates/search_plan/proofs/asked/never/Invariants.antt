@@ -1,11 +1,7 @@
 -- `search_plan::asked::never` meets its contract.
 -- Assumes nothing.
-use Prim.Native.Nat.{◌-◌}
 use Rattle.search_plan.proofs.Literals.{Allowed}
 use Rattle.search_plan.proofs.asked.never.Given as goal
 
 abbrev pub invariant-loop-l : goal.invariant-loop-l
 invariant-loop-l l = Allowed l.literals l.n l.l
-
-abbrev pub decreases-loop-l : goal.decreases-loop-l
-decreases-loop-l l = l.n - l.l

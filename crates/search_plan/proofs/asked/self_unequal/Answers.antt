@@ -3,8 +3,8 @@
 use Rattle.search_plan.proofs.Literals.{mine}
 use Rattle.search_plan.proofs.asked.self_unequal.Goals as goal
 
-pub returns-then-sign-eq6 : goal.returns-then-sign-eq6
-returns-then-sign-eq6 c = search mine
+pub returns-then-not-is_equal : goal.returns-then-not-is_equal
+returns-then-not-is_equal c = search mine
 
-pub returns : goal.returns
-returns c = search mine
+pub returns-else-not-is_equal : goal.returns-else-not-is_equal
+returns-else-not-is_equal c = search mine

@@ -4,9 +4,6 @@ use Rattle.search_plan.proofs.level.levels.Goals as goal
 pub loop-i-init : goal.loop-i-init
 loop-i-init c = search mine
 
-pub level-x-requires : goal.level-x-requires
-level-x-requires c = search mine
-
 pub loop-i-preserved : goal.loop-i-preserved
 loop-i-preserved c = search mine
 

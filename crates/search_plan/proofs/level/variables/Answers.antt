@@ -10,9 +10,6 @@ loop-i-init c = search mine
 pub reached-requires : goal.reached-requires
 reached-requires c = search mine
 
-pub more-most-requires : goal.more-most-requires
-more-most-requires c = search mine
-
 pub loop-i-preserved : goal.loop-i-preserved
 loop-i-preserved c = search mine
 

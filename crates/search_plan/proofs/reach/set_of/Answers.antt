@@ -3,8 +3,8 @@
 use Rattle.search_plan.proofs.Args.{mine}
 use Rattle.search_plan.proofs.reach.set_of.Goals as goal
 
-pub pattern_kind_in-requires : goal.pattern_kind_in-requires
-pattern_kind_in-requires c = search mine
+pub is_variable-requires : goal.is_variable-requires
+is_variable-requires c = search mine
 
 pub head_in-requires : goal.head_in-requires
 head_in-requires c = search mine
@@ -12,8 +12,8 @@ head_in-requires c = search mine
 pub only-requires : goal.only-requires
 only-requires c = search mine
 
-pub returns-then-pattern_kind_in-eq4 : goal.returns-then-pattern_kind_in-eq4
-returns-then-pattern_kind_in-eq4 c = search mine
+pub returns-then-is_variable : goal.returns-then-is_variable
+returns-then-is_variable c = search mine
 
 pub union-requires : goal.union-requires
 union-requires c = search mine

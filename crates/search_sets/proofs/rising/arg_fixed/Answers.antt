@@ -3,14 +3,5 @@
 use Rattle.search_sets.proofs.Arguments.{mine}
 use Rattle.search_sets.proofs.rising.arg_fixed.Goals as goal
 
-pub marked-requires : goal.marked-requires
-marked-requires c = search mine
-
-pub returns-then-marked : goal.returns-then-marked
-returns-then-marked c = search mine
-
-pub single-requires : goal.single-requires
-single-requires c = search mine
-
-pub returns : goal.returns
-returns c = search mine
+pub returns-else-not-marked : goal.returns-else-not-marked
+returns-else-not-marked c = rw c.if-not-marked.false (search mine)

@@ -6,5 +6,5 @@ use Rattle.search_sets.proofs.words.flagged.Goals as goal
 pub returns-then-on : goal.returns-then-on
 returns-then-on c = search mine
 
-pub returns : goal.returns
-returns c = search mine
+pub returns-else-on : goal.returns-else-on
+returns-else-on c = search mine

@@ -1,23 +1,14 @@
-use Rattle.search_values.proofs.Places.{mine}
+use mathlib.Core.Path.{subst}
+use Prim.Native.Nat.{ℕ}
+use borrow.Author.Rules.{rules}
+use lib.Dec.{ltb}
+use Rattle.std.proofs.lemmas.List.Sorted.{IsPartitionPoint-from_clause, IsPartitionedBy-ltb}
+use Rattle.search_values.specs.Lookup.{FirstFrom}
+use Rattle.search_values.proofs.Places.{ascends-order, first-from}
 use Rattle.search_values.proofs.lookup.first_of.Goals as goal
 
-pub lowest_key-sought-requires : goal.lowest_key-sought-requires
-lowest_key-sought-requires c = search mine
-
-pub loop-low-init : goal.loop-low-init
-loop-low-init c = search mine
-
-pub low_end-low-requires : goal.low_end-low-requires
-low_end-low-requires c = search mine
-
-pub high_end-high-requires : goal.high_end-high-requires
-high_end-high-requires c = search mine
-
-pub loop-low-smaller : goal.loop-low-smaller
-loop-low-smaller c = search mine
-
-pub loop-low-preserved : goal.loop-low-preserved
-loop-low-preserved c = search mine
-
 pub returns : goal.returns
-returns c = search mine
+returns c =
+    let parted = IsPartitionedBy-ltb (λ (x : ℕ). x) _ c.lowest_key-sought.result (ascends-order _ c.requires) in
+    let point = IsPartitionPoint-from_clause (λ (x : ℕ). ltb x c.lowest_key-sought.result) _ _ c.partition_point.ensures.partitioned parted (λ a r q k. search rules) in
+    subst (λ (v : ℕ). FirstFrom c.args.keys.now v c.partition_point.result) c.lowest_key-sought.ensures (first-from _ _ _ c.partition_point.ensures.bound point)

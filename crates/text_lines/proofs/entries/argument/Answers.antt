@@ -3,12 +3,6 @@
 use Rattle.text_lines.proofs.Ways.{mine}
 use Rattle.text_lines.proofs.entries.argument.Goals as goal
 
-pub usize_of_u8-requires : goal.usize_of_u8-requires
-usize_of_u8-requires c = search mine
-
-pub row_at-requires : goal.row_at-requires
-row_at-requires c = search mine
-
 pub returns-then-k-count : goal.returns-then-k-count
 returns-then-k-count c = search mine
 

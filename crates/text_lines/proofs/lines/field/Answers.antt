@@ -6,14 +6,8 @@ use Rattle.text_lines.proofs.lines.field.Goals as goal
 pub value-requires : goal.value-requires
 value-requires c = search mine
 
-pub u16_of_u8-high-requires : goal.u16_of_u8-high-requires
-u16_of_u8-high-requires c = search mine
-
 pub value-requires-2 : goal.value-requires-2
 value-requires-2 c = search mine
-
-pub u16_of_u8-low-requires : goal.u16_of_u8-low-requires
-u16_of_u8-low-requires c = search mine
 
 pub returns : goal.returns
 returns c = search mine

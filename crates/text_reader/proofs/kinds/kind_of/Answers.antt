@@ -3,26 +3,26 @@
 use Rattle.text_reader.proofs.Kinded.{mine}
 use Rattle.text_reader.proofs.kinds.kind_of.Goals as goal
 
-pub returns-then-n-eq1 : goal.returns-then-n-eq1
-returns-then-n-eq1 c = search mine
+pub returns-in-1 : goal.returns-in-1
+returns-in-1 c = search mine
 
-pub returns-then-n-eq2 : goal.returns-then-n-eq2
-returns-then-n-eq2 c = search mine
+pub returns-in-2 : goal.returns-in-2
+returns-in-2 c = search mine
 
-pub returns-then-n-eq3 : goal.returns-then-n-eq3
-returns-then-n-eq3 c = search mine
+pub returns-in-3 : goal.returns-in-3
+returns-in-3 c = search mine
 
-pub returns-then-n-eq4 : goal.returns-then-n-eq4
-returns-then-n-eq4 c = search mine
+pub returns-in-4 : goal.returns-in-4
+returns-in-4 c = search mine
 
-pub returns-then-n-eq5 : goal.returns-then-n-eq5
-returns-then-n-eq5 c = search mine
+pub returns-in-5 : goal.returns-in-5
+returns-in-5 c = search mine
 
-pub returns-then-n-eq6 : goal.returns-then-n-eq6
-returns-then-n-eq6 c = search mine
+pub returns-in-6 : goal.returns-in-6
+returns-in-6 c = search mine
 
-pub returns-then-n-eq7 : goal.returns-then-n-eq7
-returns-then-n-eq7 c = search mine
+pub returns-in-7 : goal.returns-in-7
+returns-in-7 c = search mine
 
-pub returns : goal.returns
-returns c = search mine
+pub returns-in_default : goal.returns-in_default
+returns-in_default c = search mine

@@ -7,7 +7,7 @@ use Rattle.values.proofs.Chaining.{Seeking}
 use Rattle.values.proofs.chain.held.Given as goal
 
 abbrev pub invariant-loop-i : goal.invariant-loop-i
-invariant-loop-i l = Seeking l.symbols l.counts l.args l.rows (rep_at l.table) l.symbol (take l.count l.wanted) l.i
+invariant-loop-i l = Seeking l.terms.symbols.now l.terms.counts.now l.terms.args.now l.terms.rows (rep_at l.table) l.symbol (take l.count l.wanted) l.i
 
 abbrev pub decreases-loop-i : goal.decreases-loop-i
-decreases-loop-i l = l.rows - l.i
+decreases-loop-i l = l.terms.rows - l.i

@@ -8,6 +8,3 @@ use Rattle.values.proofs.chain.link.Given as goal
 
 abbrev pub invariant-loop-i : goal.invariant-loop-i
 invariant-loop-i l = (l.i ≤ l.rows) × (length l.first ≡ 256) × (length l.next ≡ 255) × Linked l.symbols l.rows l.i l.first l.next
-
-abbrev pub decreases-loop-i : goal.decreases-loop-i
-decreases-loop-i l = l.i

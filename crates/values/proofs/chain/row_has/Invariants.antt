@@ -1,6 +1,6 @@
 -- `values::chain::row_has` meets its contract.
 -- Assumes nothing.
-use Prim.Native.Nat.{◌≤◌, ◌-◌}
+use Prim.Native.Nat.{◌≤◌}
 use mathlib.Core.Path.{◌≡◌}
 use mathlib.Core.List.{map}
 use lib.ListN.{get_or, take}
@@ -10,7 +10,4 @@ use Rattle.values.proofs.Comparing.{Comparing}
 use Rattle.values.proofs.chain.row_has.Given as goal
 
 abbrev pub invariant-loop-k : goal.invariant-loop-k
-invariant-loop-k l = (l.k ≤ l.count) × (l.count ≡ get_or l.counts l.i 0) × (get_or l.symbols l.i 0 ≡ l.symbol) × Comparing (take l.count l.wanted) (map (rep_at l.table) (args_at l.counts l.args l.i)) l.k
-
-abbrev pub decreases-loop-k : goal.decreases-loop-k
-decreases-loop-k l = l.count - l.k
+invariant-loop-k l = (l.k ≤ l.count) × (l.count ≡ get_or l.ledger.terms.counts.now l.i 0) × (get_or l.ledger.terms.symbols.now l.i 0 ≡ l.symbol) × Comparing (take l.count l.wanted) (map (rep_at l.ledger.table.now) (args_at l.ledger.terms.counts.now l.ledger.terms.args.now l.i)) l.k

@@ -3,17 +3,13 @@
 use Rattle.meaning.specs.Equality.{rep_at}
 use Rattle.values.proofs.Reading.{term-variable}
 use native.Mathlib.Omega.{arith}
-use borrow.Author.Rules.{rules}
 use Rattle.values.proofs.value.value_at.Goals as goal
 
 pub given-requires : goal.given-requires
-given-requires c = (omega (arith, c.requires.row_lt_patterns, c.requires.asked.rule.few), (c.requires.asked.rule.written.placed.each c.args.row c.requires.row_lt_patterns).variable c.if-shapes-row-eq4.true)
+given-requires c = (omega (arith, c.requires.row_lt_patterns, c.requires.asked.rule.few), (c.requires.asked.rule.written.placed.each c.args.row c.requires.row_lt_patterns).variable c.if-kinds-row-eq4.true)
 
-pub returns-then-shapes-row-eq4 : goal.returns-then-shapes-row-eq4
-returns-then-shapes-row-eq4 c = term-variable _ (rep_at c.args.table.now) _ _ _ _ _ _ _ _ _ _ _ _ (omega arith) c.requires.row_lt_patterns c.if-shapes-row-eq4.true c.given.ensures
+pub returns-then-kinds-row-eq4 : goal.returns-then-kinds-row-eq4
+returns-then-kinds-row-eq4 c = term-variable _ (rep_at c.args.reading.now.ledger.table.now) _ _ _ _ _ _ _ _ _ _ _ _ (omega arith) c.requires.row_lt_patterns c.if-kinds-row-eq4.true c.given.ensures
 
 pub term-requires : goal.term-requires
 term-requires c = record { asked = c.requires.asked; row_le_fresh = (omega arith, c.requires.row_lt_patterns) }
-
-pub returns : goal.returns
-returns c = search rules

@@ -3,11 +3,8 @@
 use Rattle.writer.proofs.Starting.{mine}
 use Rattle.writer.proofs.drawing.close_all.Goals as goal
 
-pub state-m-requires : goal.state-m-requires
-state-m-requires c = search mine
-
-pub settle-requires : goal.settle-requires
-settle-requires c = search mine
+pub settle-requires-clause-entered : goal.settle-requires-clause-entered
+settle-requires-clause-entered c = search mine
 
 pub returns : goal.returns
 returns c = search mine

@@ -3,11 +3,8 @@
 use Rattle.writer.proofs.Starting.{mine}
 use Rattle.writer.proofs.drawing.draw_by.Goals as goal
 
-pub close_all-requires : goal.close_all-requires
-close_all-requires c = record { entered = search mine; said_bound = search mine; table_value = search mine }
-
-pub draw_closed-requires : goal.draw_closed-requires
-draw_closed-requires c = search mine
+pub close_all-requires-clause-table_value : goal.close_all-requires-clause-table_value
+close_all-requires-clause-table_value c = search mine
 
 pub returns : goal.returns
 returns c = search mine

@@ -1,16 +1,16 @@
 -- `writer::drawing::draw_closed` meets its contract. The differences in a run are those that the context states, and what the turns leave shows the breach.
 -- Assumes nothing.
-use Rattle.writer.proofs.Starting.{mine}
+use Rattle.writer.proofs.Starting.{mine, draw-entered, shows-handed}
 use Rattle.writer.proofs.drawing.draw_closed.Goals as goal
 
-pub state-m-requires : goal.state-m-requires
-state-m-requires c = record { said_bound = search mine; pairs_len = search mine }
+pub invariant_of-closed : goal.invariant_of-closed
+invariant_of-closed c =
+    let p = c.args.breach.problem in
+    let e = draw-entered p.rows.now p.said.now p.patterns.now p.literals.now c.args.breach.asg c.args.breach.keys.now c.args.breach.numbers.now c.requires.entries in
+    record { room = search mine; numbers = e.numbers; few = e.few; apart_few = search mine }
 
-pub row_count-n-requires : goal.row_count-n-requires
-row_count-n-requires c = search mine
-
-pub draw_each-requires : goal.draw_each-requires
-draw_each-requires c = record { drawable = search mine; news_value = search mine }
+pub draw_each-conclusions-requires-clause-drawable : goal.draw_each-conclusions-requires-clause-drawable
+draw_each-conclusions-requires-clause-drawable c = search mine
 
 pub returns : goal.returns
-returns c = search mine
+returns c = shows-handed {w' = c.draw_each-conclusions.new.out.steps.now} (search mine) (search mine)

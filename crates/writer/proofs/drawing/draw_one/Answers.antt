@@ -3,14 +3,8 @@
 use Rattle.writer.proofs.Turning.{mine}
 use Rattle.writer.proofs.drawing.draw_one.Goals as goal
 
-pub say_after-s-requires : goal.say_after-s-requires
-say_after-s-requires c = search mine
+pub returns-clause-says : goal.returns-clause-says
+returns-clause-says c = search mine
 
-pub usize_of_u16-shared-requires : goal.usize_of_u16-shared-requires
-usize_of_u16-shared-requires c = search mine
-
-pub batch-last-requires : goal.batch-last-requires
-batch-last-requires c = search mine
-
-pub returns : goal.returns
-returns c = search mine
+pub returns-clause-sends : goal.returns-clause-sends
+returns-clause-sends c = search mine

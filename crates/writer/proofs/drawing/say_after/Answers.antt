@@ -3,8 +3,5 @@
 use Rattle.writer.proofs.Turning.{mine}
 use Rattle.writer.proofs.drawing.say_after.Goals as goal
 
-pub say-requires : goal.say-requires
-say-requires c = search mine
-
 pub returns : goal.returns
 returns c = search mine

@@ -1,2 +1,0 @@
--- The root of the laws.
-pub mod Handing

@@ -1,0 +1,11 @@
+use Rattle.grounds_words.proofs.Emitting.{mine}
+use Rattle.grounds_words.proofs.Out.send.Goals as goal
+
+pub loop-i-init : goal.loop-i-init
+loop-i-init c = search mine
+
+pub loop-i-preserved : goal.loop-i-preserved
+loop-i-preserved c = search mine
+
+pub returns : goal.returns
+returns c = search mine
