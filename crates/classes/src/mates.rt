@@ -1,4 +1,5 @@
 // Rows that agree, found along chains.
+// Rows and table are no struct: some of these write the table.
 ghost use Rattle.std.specs.Prelude.{◌≡◌, ℕ, ◌<◌, ◌≤◌, get_or, replicate};
 ghost use Rattle.meaning.specs.Equality.{rep_at};
 ghost use Rattle.meaning.specs.Closing.{agree as agreed};
@@ -110,6 +111,7 @@ fn mate(rows: &[u16], table: &[u16], next: &[u16; ROWS], i: usize, head: u16) ->
     ensures { Mate (rows_of rows.now) table.now next.now i head result }
 {
     let mut at = row_of(head);
+    // No iterator: each row of a chain leads to the next.
     while let Some(j) = at {
         if agree(rows, table, i, j) {
             return at;

@@ -31,6 +31,7 @@ pub(crate) fn difference_at(said: &[u16], k: usize) -> usize
     requires { k < said_count said.now }
     ensures { (result ≡ difference_at said.now k) × (result ≤ 1) }
 {
+    // No usize::from: the proof goes by the two kinds.
     if is_equation(said, k) { 0 } else { 1 }
 }
 

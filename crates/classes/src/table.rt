@@ -5,10 +5,11 @@ ghost use Rattle.meaning.specs.Closing.{move, total, count as numbers};
 ghost use Rattle.classes.specs.Steps.{move_from, merge};
 
 // What a table holds at a row, and 0 past its end.
+// No Option: rep_at has 0 there.
 pub(crate) fn at_row(table: &[u16], row: usize) -> u16
     ensures { result ≡ rep_at table.now row }
 {
-    if row < table.len() { table[row] } else { 0 }
+    table.get(row).copied().unwrap_or(0)
 }
 
 // Each place gets its own number.

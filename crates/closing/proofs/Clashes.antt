@@ -2,7 +2,7 @@
 --     Clearing, Parting    the loops: no clash so far; not kept apart so far
 --     mine                 what `clash`, `apart` and the functions below them leave to show
 -- Assumes nothing.
-use mathlib.Core.Bool.{Bool, true, false, ◌&&◌, ◌||◌}
+use mathlib.Core.Bool.{Bool, true, false, not, ◌&&◌, ◌||◌}
 use mathlib.Core.List.{List, [], ◌∷◌, ◌++◌}
 use mathlib.Core.Path.{◌≡◌, refl, ap, ap₂, sym, ◌∙◌, subst}
 use Prim.Native.Nat.{ℕ, zero, suc, ◌+◌, ◌≤◌, ◌<◌}
@@ -24,22 +24,20 @@ use Rattle.closing.proofs.Pairs.{pair_at, kept, pairs_from, is_difference, diffe
 pub read_past : (l : List ℕ) (k : ℕ) → length l ≡ 510 → length l ≤ k → Read l k 0
 read_past l k n h = record { so = sym (get_or-eq_default l 0 h); long = n }
 
-read-zero : {l : List ℕ} {k r : ℕ} → Read l k r → 510 ≤ k → r ≡ 0
-read-zero {l} {k} {r} d h = d.so ∙ get_or-eq_default l 0 (omega (arith, d.long))
-
 pub side-class : (sides t : List ℕ) (k x w r : ℕ) → Read sides k x → w ≡ x → r ≡ rep_at t w → SideClass sides t k r
 side-class sides t k x w r d e q = record { so = q ∙ ap (rep_at t) (e ∙ d.so); long = d.long }
 
 side-zero : {sides t : List ℕ} {k r : ℕ} → SideClass sides t k r → 510 ≤ k → r ≡ rep_at t 0
 side-zero {sides} {t} {k} {r} d h = d.so ∙ ap (rep_at t) (get_or-eq_default sides 0 (omega (arith, d.long)))
 
-pub difference-none : (kinds : List ℕ) (k c : ℕ) → Read kinds k c → c ≡ 2 → 0 ≡ difference_at kinds k
-unfolding difference_at
-difference-none kinds k c d e = let z : get_or kinds k 0 ≡ 2 = sym d.so ∙ e in rw (eq-eqb (get_or kinds k 0) 2 z, difference_at)
+module _ (kinds : List ℕ) (k : ℕ) (c : Bool) (d : c ≡ eqb (get_or kinds k 0) 2) where
+  pub difference-none : c ≡ true → 0 ≡ difference_at kinds k
+  unfolding difference_at
+  difference-none e = rw (sym d ∙ e, difference_at)
 
-pub difference-one : (kinds : List ℕ) (k c : ℕ) → Read kinds k c → (c ≡ 2 → ⊥) → 1 ≡ difference_at kinds k
-unfolding difference_at
-difference-one kinds k c d e = rw (ne_eqb (get_or kinds k 0) 2 (λ z. e (d.so ∙ z)), difference_at)
+  pub difference-one : c ≡ false → 1 ≡ difference_at kinds k
+  unfolding difference_at
+  difference-one e = rw (sym d ∙ e, difference_at)
 
 -- ---- one statement
 
@@ -50,29 +48,27 @@ inside_of k f = go (ltb k 510) refl
     go true e = ltb-true k 510 e
     go false e = absurd (f (ltb-false k 510 e))
 
-module _ (kinds lefts rights t : List ℕ) (k c : ℕ) (d : Read kinds k c) where
-  pub clash-equation : c ≡ 2 → ClashAt kinds lefts rights t k false
+module _ (kinds lefts rights t : List ℕ) (k : ℕ) (c : Bool) (d : c ≡ eqb (get_or kinds k 0) 2) where
+  pub clash-equation : (c ≡ true → k < 510) → c ≡ true → ClashAt kinds lefts rights t k (not c)
   unfolding clash_at
-  clash-equation e =
-      let z : get_or kinds k 0 ≡ 2 = sym d.so ∙ e in
-      record { so = rw (eq-eqb (get_or kinds k 0) 2 z); inside = λ _. inside_of k (λ h. let q : c ≡ 0 = read-zero d h in omega arith) }
+  clash-equation n e = let z : eqb (get_or kinds k 0) 2 ≡ true = sym d ∙ e in record { so = rw (e, z) refl; inside = λ _. n e }
 
-  module _ (p q : ℕ) (n : c ≡ 2 → ⊥) (dp : SideClass lefts t k p) (dq : SideClass rights t k q) where
+  module _ (p q : ℕ) (n : c ≡ false) (dp : SideClass lefts t k p) (dq : SideClass rights t k q) where
     pub clash-sides : ClashAt kinds lefts rights t k (eqb p q)
     unfolding clash_at
     clash-sides =
         record {
-          so = rw (ne_eqb (get_or kinds k 0) 2 (λ z. n (d.so ∙ z))) (ap₂ (λ (a b : ℕ). eqb a b) dp.so dq.so);
+          so = rw (sym d ∙ n) (ap₂ (λ (a b : ℕ). eqb a b) dp.so dq.so);
           inside = λ e. inside_of k (λ h. eqb-false p q e (side-zero dp h ∙ sym (side-zero dq h)));
         }
 
     pub apart-sides : (a b : ℕ) (r : Bool) → r ≡ either_same a b p q → r ≡ apart_at kinds lefts rights t k a b
     unfolding apart_at
-    apart-sides a b r e = rw (ne_eqb (get_or kinds k 0) 2 (λ z. n (d.so ∙ z))) (e ∙ ap₂ (λ (u v : ℕ). either_same a b u v) dp.so dq.so)
+    apart-sides a b r e = rw (sym d ∙ n) (e ∙ ap₂ (λ (u v : ℕ). either_same a b u v) dp.so dq.so)
 
-  pub apart-equation : (a b : ℕ) → c ≡ 2 → false ≡ apart_at kinds lefts rights t k a b
+  pub apart-equation : (a b : ℕ) → c ≡ true → not c ≡ apart_at kinds lefts rights t k a b
   unfolding apart_at
-  apart-equation a b e = let z : get_or kinds k 0 ≡ 2 = sym d.so ∙ e in rw (eq-eqb (get_or kinds k 0) 2 z)
+  apart-equation a b e = let z : eqb (get_or kinds k 0) 2 ≡ true = sym d ∙ e in rw (e, z) refl
 
 pub both-none : (a b p q : ℕ) → (a ≡ p → ⊥) → false ≡ both_same a b p q
 unfolding both_same

@@ -1,25 +1,26 @@
 -- The pass over the statements, as the loop makes it.
 --     mine     what `state` and `join_stated` leave to show
 -- Assumes nothing.
+use mathlib.Core.Bool.{Bool, true, false}
 use mathlib.Core.List.{List}
-use mathlib.Core.Path.{◌≡◌, refl, ap, ap₂, ◌∙◌}
+use mathlib.Core.Path.{◌≡◌, refl, sym, ap, ap₂, ◌∙◌}
 use Prim.Native.Nat.{ℕ, ◌+◌, ◌≤◌, ◌<◌}
 use native.Mathlib.Numerals.{add-one}
 use native.Mathlib.Omega.{arith}
+use lib.Dec.{eqb}
 use lib.ListN.{get_or}
 use borrow.Author.Rules.{rules}
-use borrow.Author.Tests.{eq-eqb, ne_eqb}
 use Rattle.meaning.specs.Closing.{unite, upto}
 use Rattle.closing.specs.Steps.{state_step}
 
-module _ (kinds lefts rights : List ℕ) (k : ℕ) (l m : List ℕ) where
-  pub state-equation : (a b : ℕ) → get_or kinds k 0 ≡ 2 → a ≡ get_or lefts k 0 → b ≡ get_or rights k 0 → m ≡ unite a b l → m ≡ state_step kinds lefts rights k l
+module _ (kinds lefts rights : List ℕ) (k : ℕ) (l m : List ℕ) (c : Bool) (ec : c ≡ eqb (get_or kinds k 0) 2) where
+  pub state-equation : (a b : ℕ) → c ≡ true → a ≡ get_or lefts k 0 → b ≡ get_or rights k 0 → m ≡ unite a b l → m ≡ state_step kinds lefts rights k l
   unfolding state_step
-  state-equation a b e ea eb q = q ∙ rw (eq-eqb (get_or kinds k 0) 2 e, state_step) (ap₂ (λ (x y : ℕ). unite x y l) ea eb)
+  state-equation a b e ea eb q = q ∙ rw (sym ec ∙ e, state_step) (ap₂ (λ (x y : ℕ). unite x y l) ea eb)
 
-  pub state-other : (get_or kinds k 0 ≡ 2 → ⊥) → l ≡ state_step kinds lefts rights k l
+  pub state-other : c ≡ false → l ≡ state_step kinds lefts rights k l
   unfolding state_step
-  state-other d = rw (ne_eqb (get_or kinds k 0) 2 d, state_step)
+  state-other d = rw (sym ec ∙ d, state_step)
 
 -- the first k statements are done
 pub record Stating (step : ℕ → List ℕ → List ℕ) (n : ℕ) (l t : List ℕ) (k : ℕ) : Type 0 where

@@ -1,5 +1,6 @@
 // The closing of a context that is handed over in columns: each row's representative, the lowest row that is equal to it. Nothing here
 // knows of texts.
+// Beside classes, over runs: the search walks columns.
 #![tactic(auto)]
 
 pub mod mates;
@@ -90,7 +91,7 @@ pub fn clash(statements: &Statements, table: &[u16; 255]) -> Option<u16>
         if clash_at(statements, table, k) {
             return Some(n);
         }
-        n += difference_at(statements.kinds, k);
+        n += difference_at(statements, k);
     }
     None
 }

@@ -1,4 +1,5 @@
 // Rows that agree, found along chains.
+// Rows and table are no struct: some of these write the table.
 ghost use Rattle.std.specs.Prelude.{◌≡◌, ℕ, ◌<◌, ◌≤◌, get_or, replicate};
 ghost use Rattle.meaning.specs.Equality.{rep_at};
 ghost use Rattle.meaning.specs.Closing.{agree as agreed};
@@ -30,6 +31,7 @@ fn same_args(args: &[u16; 1020], table: &[u16; 255], i: usize, j: usize, count: 
 }
 
 // Whether rows i and j have one symbol, and arguments with the same representatives.
+// No `&&`: the proof follows the three answers one by one.
 pub(crate) fn agree(terms: &Terms, table: &[u16; 255], i: usize, j: usize) -> bool
     requires laid { Roomy terms.now }
     requires i_lt_rows { i < terms.now.rows }

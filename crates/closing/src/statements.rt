@@ -11,7 +11,7 @@ fn state(statements: &Statements, table: &mut [u16; 255], k: usize)
     requires { k < 510 }
     ensures { table.new ≡ state_step statements.now.kinds.now statements.now.lefts.now statements.now.rights.now k table.old }
 {
-    if statements.kinds[k] == 2 {
+    if statements.is_equation(k) {
         unite(
             table,
             usize::from(statements.lefts[k]),
@@ -30,14 +30,8 @@ pub(crate) fn join_stated(statements: &Statements, table: &mut [u16; 255])
     }
 }
 
-// What a column holds for statement k, and 0 past its end.
-// No enum: the column holds numbers, of which 2 is an equation. Beside side_at and at_row: arrays of three kinds, and the one line is the contract.
-fn kind_at(kinds: &[u8; 510], k: usize) -> u8
-    ensures { Read kinds.now k result }
-{
-    if k < kinds.len() { kinds[k] } else { 0 }
-}
-
+// What a column holds for a side of statement k, and 0 past its end.
+// Beside at_row: arrays of two sizes, and the one line is the contract.
 fn side_at(sides: &[u16; 510], k: usize) -> u16
     ensures { Read sides.now k result }
 {
@@ -52,20 +46,18 @@ fn side_class(sides: &[u16; 510], table: &[u16; 255], k: usize) -> u16
 }
 
 // 1 where statement k is a difference, and 0 where it is an equation.
-pub(crate) fn difference_at(kinds: &[u8; 510], k: usize) -> u16
-    ensures { (result ≡ difference_at kinds.now k) × (result ≤ 1) }
+pub(crate) fn difference_at(statements: &Statements, k: usize) -> u16
+    ensures { (result ≡ difference_at statements.now.kinds.now k) × (result ≤ 1) }
 {
-    if kind_at(kinds, k) == 2 { 0 } else { 1 }
+    if statements.is_equation(k) { 0 } else { 1 }
 }
 
 // Whether statement k is a difference whose sides have one representative.
 pub(crate) fn clash_at(statements: &Statements, table: &[u16; 255], k: usize) -> bool
     ensures { ClashAt statements.now.kinds.now statements.now.lefts.now statements.now.rights.now table.now k result }
 {
-    if kind_at(statements.kinds, k) == 2 {
-        return false;
-    }
-    side_class(statements.lefts, table, k) == side_class(statements.rights, table, k)
+    !statements.is_equation(k)
+        && side_class(statements.lefts, table, k) == side_class(statements.rights, table, k)
 }
 
 fn both(a: u16, b: u16, p: u16, q: u16) -> bool
@@ -90,13 +82,11 @@ pub(crate) fn apart_at(
 ) -> bool
     ensures { result ≡ apart_at statements.now.kinds.now statements.now.lefts.now statements.now.rights.now table.now k a b }
 {
-    if kind_at(statements.kinds, k) == 2 {
-        return false;
-    }
-    either(
-        a,
-        b,
-        side_class(statements.lefts, table, k),
-        side_class(statements.rights, table, k),
-    )
+    !statements.is_equation(k)
+        && either(
+            a,
+            b,
+            side_class(statements.lefts, table, k),
+            side_class(statements.rights, table, k),
+        )
 }

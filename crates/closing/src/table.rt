@@ -15,8 +15,8 @@ pub(crate) fn own() -> [u16; 255]
     ensures { result ≡ numbers 255 0 }
 {
     let mut t = [0; 255];
-    for i in 0..255 {
-        t[i] = i as u16;
+    for (i, place) in t.iter_mut().enumerate() {
+        *place = i as u16;
     }
     t
 }
@@ -31,8 +31,8 @@ fn moved(lo: u16, hi: u16, x: u16) -> u16
 fn move_class(table: &mut [u16; 255], lo: u16, hi: u16)
     ensures { table.new ≡ map (move lo hi) table.old }
 {
-    for r in 0..255 {
-        table[r] = moved(lo, hi, table[r]);
+    for place in table.iter_mut() {
+        *place = moved(lo, hi, *place);
     }
 }
 

@@ -1,7 +1,7 @@
 // What a merge wakes. A row stands over the classes of its arguments; where one of them goes over to another class the row is woken, since it
 // may agree now with a row that it did not agree with. Nothing here has to find every two rows that agree: the passes over the rows do, and
 // with what is found here they are few.
-ghost use Rattle.std.specs.Prelude.{◌≡◌, ◌<◌};
+ghost use Rattle.std.specs.Prelude.{◌≡◌, ◌<◌, ◌≤◌};
 ghost use Rattle.meaning.specs.Closing.{unite as united};
 ghost use Rattle.columns.specs.Lent.{rows_in};
 ghost use Rattle.closing.specs.Steps.{Roomy, Seated, one_more, Found, Nearer};
@@ -19,6 +19,7 @@ struct Waking {
     links: [u16; 1275],
     rows: [u16; 255],
     count: usize,
+    ghost few: { count ≤ 255 },
 }
 
 impl Waking {
@@ -65,19 +66,14 @@ impl Waking {
     // One more row is woken, where there is room for it.
     fn push(&mut self, row: u16) {
         if self.count < 255 {
-            let n = self.count;
-            self.rows[n] = row;
-            self.count = n + 1;
+            self.rows[self.count] = row;
+            self.count += 1;
         }
     }
 
     fn pop(&mut self) -> Option<u16> {
-        let n = self.count;
-        if n == 0 || 255 < n {
-            return None;
-        }
-        self.count = n - 1;
-        Some(self.rows[n - 1])
+        self.count = self.count.checked_sub(1)?;
+        Some(self.rows[self.count])
     }
 
     // The first four rows over the class hi are woken, and stand over lo from now on.

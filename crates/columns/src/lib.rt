@@ -1,12 +1,14 @@
 // Whether columns say a well-formed context and a well-formed clause.
+// Beside runs::fit, over runs: the search walks columns.
 #![tactic(auto)]
 
-ghost use Rattle.std.specs.Prelude.{true, ◌≡◌, ◌+◌, ◌*◌, ◌≤◌, ◌<◌, length};
+ghost use Rattle.std.specs.Prelude.{true, ◌≡◌, ◌+◌, ◌*◌, ◌≤◌, ◌<◌, length, eqb, get_or};
 ghost use Rattle.columns.specs.Fit.{Decides, Every, PlacedAt, NamedAt, PatternAt};
 ghost use Rattle.columns.specs.Lent.{LaidIn, WrittenIn, Fits, FitsRule};
 
 // The rows of a context: row i is a symbol over its first counts[i] places of args, of which each row has four.
 // Parallel arrays: the search over them promises what it does for any columns that are lent.
+// No enum: columns hold numbers, of which 2 is an equation, 4 a variable and 6 equal; any other number is the other kind.
 #[derive(Clone, Copy)]
 pub struct Terms<'a> {
     pub symbols: &'a [u16; 255],
@@ -22,6 +24,24 @@ pub struct Statements<'a> {
     pub lefts: &'a [u16; 510],
     pub rights: &'a [u16; 510],
     pub count: usize,
+}
+
+impl<'a> Statements<'a> {
+    // Whether statement k is an equation; past the last place none is.
+    pub fn is_equation(&self, k: usize) -> bool
+        ensures kind { result ≡ eqb (get_or self.now.kinds.now k 0) 2 }
+        ensures inside { result ≡ true → k < 510 }
+    {
+        kind_at(self.kinds, k) == 2
+    }
+}
+
+// What a column holds for statement k, and 0 past its end.
+fn kind_at(kinds: &[u8; 510], k: usize) -> u8
+    ensures kind { result ≡ get_or kinds.now k 0 }
+    ensures past { 510 ≤ k → result ≡ 0 }
+{
+    if k < kinds.len() { kinds[k] } else { 0 }
 }
 
 #[derive(Clone, Copy)]
@@ -40,6 +60,16 @@ pub struct Patterns<'a> {
     pub rows: usize,
 }
 
+impl<'a> Patterns<'a> {
+    // Whether pattern row i is a variable.
+    pub fn is_variable(&self, i: usize) -> bool
+        requires { i < 64 }
+        ensures { result ≡ eqb (get_or self.now.kinds.now i 0) 4 }
+    {
+        self.kinds[i] == 4
+    }
+}
+
 // The literals of a rule: an equation or a difference of two pattern rows.
 #[derive(Clone, Copy)]
 pub struct Literals<'a> {
@@ -47,6 +77,16 @@ pub struct Literals<'a> {
     pub lefts: &'a [u16; 16],
     pub rights: &'a [u16; 16],
     pub count: usize,
+}
+
+impl<'a> Literals<'a> {
+    // Whether literal l says that its sides are equal.
+    pub fn is_equal(&self, l: usize) -> bool
+        requires { l < 16 }
+        ensures { result ≡ eqb (get_or self.now.signs.now l 0) 6 }
+    {
+        self.signs[l] == 6
+    }
 }
 
 #[derive(Clone, Copy)]

@@ -46,12 +46,10 @@ fn look(classed: &Classed, known: &mut [u8; 65025], x: usize, y: usize) -> bool
     ensures knows_2 { Knows (context_in classed.now.context) known.new }
 {
     let k = place(x, y);
-    let told = known[k];
-    if told == 1 {
-        return false;
-    }
-    if told == 2 {
-        return true;
+    match known[k] {
+        1 => return false,
+        2 => return true,
+        _ => {}
     }
     let b = further::clashes_ready(&classed.context, classed.closed, classed.busy, x, y);
     known[k] = mark(b);

@@ -12,7 +12,7 @@ use lib.Dec.{eqb}
 use lib.ListN.{length, get_or, set, take, drop, replicate, length-set, length-drop, length-replicate, get_or-replicate, get_or-eq_default}
 use lib.Seq.{take-suc, get_or-drop, get_or-set_same, get_or-set_other}
 use borrow.Author.Rules.{rules}
-use borrow.Author.Tests.{eqb-true, eqb-false, eq-eqb, ne_eqb}
+use borrow.Author.Tests.{eqb-true, eqb-false, ne_eqb}
 use Rattle.meaning.specs.Context.{Row, differences_of}
 use Rattle.meaning.specs.Equality.{rep_at}
 use Rattle.meaning.specs.Columns.{rows_from, row_from, statements_from, context_from}
@@ -147,18 +147,18 @@ rowing-done {counts} {args} {n} {t} {m₀} {m} {i} g h = let e : i ≡ n = omega
 
 -- ---- one statement
 
-module _ (kinds lefts rights t m : List ℕ) (k : ℕ) where
-  pub statement-equation : get_or kinds k 0 ≡ 2 → Raised (sides_at kinds lefts rights t k) m m
+module _ (kinds lefts rights t m : List ℕ) (k : ℕ) (s : Bool) (es : s ≡ eqb (get_or kinds k 0) 2) where
+  pub statement-equation : s ≡ true → Raised (sides_at kinds lefts rights t k) m m
   unfolding sides_at
-  statement-equation e = raised-none _ m (λ a. rw (eq-eqb (get_or kinds k 0) 2 e))
+  statement-equation e = raised-none _ m (λ a. rw (sym es ∙ e))
 
-  pub statement-difference : (l r l' r' a a' b b' : ℕ) (m₁ m₂ : List ℕ) → (get_or kinds k 0 ≡ 2 → ⊥)
+  pub statement-difference : (l r l' r' a a' b b' : ℕ) (m₁ m₂ : List ℕ) → s ≡ false
       → l ≡ get_or lefts k 0 → a ≡ rep_at t l → a' ≡ a → r ≡ get_or rights k 0 → b ≡ rep_at t r → b' ≡ b
       → Raised (eqb a') m m₁ → Raised (eqb b') m₁ m₂ → Raised (sides_at kinds lefts rights t k) m m₂
   unfolding sides_at
   statement-difference l r l' r' a a' b b' m₁ m₂ d el ea ea' er eb eb' p q =
       raised-then p q _
-      (λ c. rw (ne_eqb (get_or kinds k 0) 2 d) (ap₂ (λ (x y : ℕ). eqb x c || eqb y c) (sym (ea' ∙ ea ∙ ap (rep_at t) el)) (sym (eb' ∙ eb ∙ ap (rep_at t) er))))
+      (λ c. rw (sym es ∙ d) (ap₂ (λ (x y : ℕ). eqb x c || eqb y c) (sym (ea' ∙ ea ∙ ap (rep_at t) el)) (sym (eb' ∙ eb ∙ ap (rep_at t) er))))
 
 -- ---- the statements: the sides of the first k are marked
 

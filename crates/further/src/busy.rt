@@ -52,7 +52,7 @@ fn mark_statement(statements: &Statements, table: &[u16; 255], marks: &mut [u8; 
     requires { k < 510 }
     ensures { Raised (sides_at statements.now.kinds.now statements.now.lefts.now statements.now.rights.now table.now k) marks.old marks.new }
 {
-    if statements.kinds[k] == 2 {
+    if statements.is_equation(k) {
         return;
     }
     mark(

@@ -55,6 +55,7 @@ fn follows(statements: &Statements, table: &[u16; 255]) -> bool
 
 // For each class 1 where it is busy, and else 0. Where the columns are not fit, or the sides of some difference have one representative, all
 // are.
+// Bytes and no bools: callers lend these marks.
 pub fn busy_classes(context: &Context, table: &[u16; 255]) -> [u8; 255]
     ensures marks { MarksIn context.now table.now result }
 {

@@ -19,7 +19,7 @@ pub(crate) struct Classes<'a> {
 }
 
 // An entry's label, and 0 past the last place.
-// No Option: labels are compared as they are read, and the contract has 0 there.
+// No Option: labels are compared as they are read, and label_in of the laws has 0 there.
 pub(crate) fn label(table: &[u16], x: u16) -> u16
     ensures { result ≡ label_in table.now x }
 {
@@ -27,6 +27,7 @@ pub(crate) fn label(table: &[u16], x: u16) -> u16
 }
 
 // The step that an entry is equal to its label.
+// No Option, as at push.
 fn why(table: &[u16], x: u16) -> u16
     ensures { result ≡ why_in table.now x }
 {
@@ -63,6 +64,7 @@ pub(crate) fn put_label(table: &mut [u16], e: Equation)
 }
 
 // The number of an entry's own step.
+// No Option, as at push.
 fn own(x: u16) -> u16
     ensures { result ≡ own_step x }
 {

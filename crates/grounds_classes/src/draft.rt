@@ -5,6 +5,7 @@ ghost use Rattle.grounds_laws.specs.Draft.{count_in, Wrote, room_in, pushed, tur
 use grounds_laws::{DRAFT, NUMBERS};
 
 // A step: its kind, the two entries that it says are equal, and its four numbers.
+// No enum: a column of steps holds the kind as its number, and the laws of grounds_laws speak of that column.
 #[derive(Clone, Copy)]
 pub(crate) struct Step {
     pub kind: u16,

@@ -1,4 +1,5 @@
 // Closed classes of entries, with numbered steps that show them.
+// Flat numbers: the laws speak of a run.
 #![tactic(auto)]
 
 pub mod classes;

@@ -116,6 +116,7 @@ impl<'a> Classes<'a> {
     }
 
     // The number of a step for arguments i of two entries, or 0 past the last.
+    // No Option, as at push.
     fn argue(&mut self, two: Two, i: usize) -> u16
         ensures { Adds self.old self.new result (argued_in two.entry i (state_in self.old)) }
     {

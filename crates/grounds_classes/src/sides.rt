@@ -7,7 +7,7 @@ use grounds_numbers::limits::PAIR;
 use grounds_numbers::pairs::pair_count;
 
 // The left side of pair i, and 0 past the last.
-// No Option: the contract has 0 there.
+// No Option: left_at and right_at of the laws have 0 there.
 pub fn left_at(pairs: &[u16], i: usize) -> u16
     ensures { result ≡ left_at (pairs_in pairs.now) i }
 {

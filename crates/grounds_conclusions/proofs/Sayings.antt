@@ -4,13 +4,12 @@
 --     placing, saying           what the functions of this crate leave to show
 -- Assumes nothing.
 use mathlib.Core.Bool.{Bool, true, false, not}
-use mathlib.Core.List.{List, [], ◌∷◌, ◌++◌}
+use mathlib.Core.List.{List}
 use mathlib.Core.Path.{◌≡◌, refl, ap, ap₂, sym, ◌∙◌, subst}
 use Prim.Native.Nat.{ℕ, suc, ◌+◌, ◌-◌, ◌≤◌, ◌<◌}
 use native.Mathlib.Numerals.{add-one}
 use native.Mathlib.Omega.{arith}
 use lib.Dec.{eqb}
-use lib.ListN.{length}
 use Rattle.std.specs.Prelude.{Option}
 use Rattle.std.specs.Option.{unwrap_or}
 use borrow.Author.Rules.{rules}
@@ -22,7 +21,6 @@ use Rattle.meaning.specs.Checking.{first_false}
 use Rattle.grounds_numbers.specs.Limits.{most_numbers}
 use Rattle.grounds_numbers.specs.Pairs.{pair_count, pairs_in}
 use Rattle.grounds_numbers.proofs.Pairing.{pairs-length}
-use Rattle.grounds_laws.specs.Limits.{class_run}
 use Rattle.grounds_laws.specs.Draft.{Wrote}
 use Rattle.grounds_laws.specs.Classes.{State, state_of, same}
 use Rattle.grounds_laws.specs.Rounds.{one_label}

@@ -1,7 +1,7 @@
 // What shows one literal by itself, from closed classes of shared steps: a step and, for an unequal literal, a stated difference.
 #![tactic(auto)]
 
-ghost use Rattle.std.specs.Prelude.{◌≡◌, ℕ, ◌+◌, ◌≤◌, ◌<◌, length};
+ghost use Rattle.std.specs.Prelude.{◌≡◌, IfSome, ℕ, ◌+◌, ◌≤◌, ◌<◌, length};
 ghost use Rattle.std.specs.Option.{unwrap_or};
 ghost use Rattle.runs.specs.Limits.{arg_places};
 ghost use Rattle.runs.specs.Runs.{row_count, count_in};
@@ -18,6 +18,7 @@ use grounds_classes::rounds::same_label;
 use grounds_classes::sides::{left_at, right_at};
 use grounds_laws::CLASS_RUN;
 use grounds_numbers::pairs::pair_count;
+use runs::limits::EQUAL;
 
 // The number of a step, and of the stated difference whose sides it says are equal.
 #[derive(Clone, Copy)]
@@ -53,7 +54,8 @@ fn place(table: &[u16], pairs: &[u16]) -> Option<usize>
 // The sides of the first stated difference with one label are equal.
 fn say_same(cells: &mut [u16], table: &[u16], pairs: &[u16]) -> Shown
     requires { pair_count pairs.now + 1 < most_numbers }
-    ensures { Says cells.new result.first (unwrap_or result.difference 0) (said_same cells.old table.now (pairs_in pairs.now)) }
+    ensures says { Says cells.new result.first (unwrap_or result.difference 0) (said_same cells.old table.now (pairs_in pairs.now)) }
+    ensures told { IfSome result.difference (λ d. 0 < d) }
 {
     let i = place(table, pairs).unwrap_or(pair_count(pairs));
     Shown {
@@ -64,7 +66,8 @@ fn say_same(cells: &mut [u16], table: &[u16], pairs: &[u16]) -> Shown
 
 // Adding x = y makes the sides of a stated difference equal; the classes are closed again in a table of their own.
 fn say_differ(cells: &mut [u16], closed: Closed, x: u16, y: u16) -> Shown
-    ensures { Says cells.new result.first (unwrap_or result.difference 0) (differing_by closed.entry.keys.now closed.entry.apart.now x y (state_of cells.old closed.entry.table.now)) }
+    ensures says { Says cells.new result.first (unwrap_or result.difference 0) (differing_by closed.entry.keys.now closed.entry.apart.now x y (state_of cells.old closed.entry.table.now)) }
+    ensures told { IfSome result.difference (λ d. 0 < d) }
 {
     let mut run = [0; CLASS_RUN];
     let own = &mut run[..closed.table.len()];
@@ -76,9 +79,10 @@ fn say_differ(cells: &mut [u16], closed: Closed, x: u16, y: u16) -> Shown
 // For a literal of one kind or the other between two entries, from closed classes.
 // No enum: the run of a rule holds the kind as a number, and any number but 6 is an unequal literal's.
 pub fn say(cells: &mut [u16], closed: Closed, kind: u16, x: u16, y: u16) -> Shown
-    ensures { Says cells.new result.first (unwrap_or result.difference 0) (saying_by closed.entry.keys.now closed.entry.apart.now kind x y (state_of cells.old closed.entry.table.now)) }
+    ensures says { Says cells.new result.first (unwrap_or result.difference 0) (saying_by closed.entry.keys.now closed.entry.apart.now kind x y (state_of cells.old closed.entry.table.now)) }
+    ensures told { IfSome result.difference (λ d. 0 < d) }
 {
-    if kind == 6 {
+    if kind == EQUAL {
         Shown {
             first: same(cells, closed.table, x, y),
             difference: None,

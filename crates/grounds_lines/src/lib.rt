@@ -1,4 +1,5 @@
 // The lines of grounds, written piece by piece into a lent space.
+// A space and a place in it stay two parameters: the writers of reply_lines take them so.
 #![tactic(auto)]
 
 mod lines;

@@ -18,6 +18,7 @@ fn put_number(x: Low, lent: &mut [u8], at: usize)
     ensures { lent.new ≡ sets lent.old at (hex (octets x.0 x.1)) }
 {
     let Low(n, mut rest) = x;
+    // No to_be_bytes: the promise has each byte by division.
     for k in (0..n).rev() {
         put_byte((rest % 256) as u8, lent, at + k * 2);
         rest /= 256;

@@ -25,6 +25,7 @@ fn note_four(cells: &[u16], marks: &mut [u16], limit: usize, p: usize)
     requires p_in_bounds { p + 3 < length cells.now }
     ensures { marks.new ≡ noted_four limit cells.now p marks.old }
 {
+    // No loop: the promise names the four places.
     note(marks, limit, cells[p]);
     note(marks, limit, cells[p + 1]);
     note(marks, limit, cells[p + 2]);
@@ -41,6 +42,7 @@ fn mark_one(cells: &[u16], marks: &mut [u16], i: usize)
         return;
     }
     let p = i * DRAFT;
+    // Kinds 1 and 2 cite no step.
     if cells[p + 1] <= 2 {
         return;
     }

@@ -38,6 +38,7 @@ pub enum Fault {
 }
 
 // A place for each literal; an absent conclusion cites step 0.
+// Two columns: docs/GROUNDS.md hands them over so.
 #[derive(Clone, Copy)]
 pub struct Conclusions {
     pub firsts: [u32; LITERALS],
@@ -58,6 +59,7 @@ struct Claim<'a> {
 
 impl<'a> Claim<'a> {
     // The first bad step.
+    // Beside open_literal: a function for both would have to promise each field that it fills.
     fn bad_step(&self, table: Table, pairs: &mut [u16]) -> Option<usize>
         requires { said_count self.now.said.now * pair_size ≤ length pairs.old }
         ensures { FirstFalse (follows_with self.now.said.now self.now.literals.now table.entry.keys.now table.entry.numbers.now table.entry.rows self.now.steps.now) (length self.now.steps.now) result }
@@ -128,6 +130,7 @@ impl<'a> Claim<'a> {
 }
 
 // The first variable without a context row, else the first bad step, else the first literal not concluded; else the grounds are accepted.
+// Seven parameters: its callers lend each of these apart.
 pub fn judge(
     rows: &[u16],
     said: &[u16],

@@ -13,6 +13,7 @@ fn owned(literals: &[u16], owner: u64) -> Option<usize>
     ensures { MatchOption result (owned_at literals.now owner ≡ false) (λ place. (owner ≡ place + 1) × (place < literal_count literals.now) × (sign_in literals.now place ≢ 6)) }
 {
     let place = place_of(owner, literal_count(literals))?;
+    // No then_some: the two ways are proved apart.
     if is_equal(literals, place) {
         None
     } else {

@@ -58,6 +58,7 @@ pub(crate) fn number_at(steps: &[[u64; WORDS]], i: usize, k: usize) -> u64
 pub(crate) fn place_of(x: u64, count: usize) -> Option<usize>
     ensures { MatchOption result (counts count x ≡ false) (λ place. (x ≡ place + 1) × (place < count)) }
 {
+    // No then_some: the two ways are proved apart.
     if 0 < x && x <= count as u64 {
         Some((x - 1) as usize)
     } else {

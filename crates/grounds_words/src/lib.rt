@@ -87,6 +87,7 @@ fn forget(news: &mut [u32], from: usize)
     requires { 0 < length news.old }
     ensures { news.new ≡ forgotten from news.old }
 {
+    // No fill: the promise is said place by place.
     let n = news.len() - 1;
     for i in from..n {
         news[i + 1] = 0;

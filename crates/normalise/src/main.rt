@@ -30,6 +30,7 @@ fn answer(rt: &(impl Print + Eprint), got: Result<usize, Unread>, input: &[u8]) 
     hand(rt, input, &space[..parts.text], parts.line.as_bytes())
 }
 
+// Each program has its own: what it asks of its own run stands in its contract.
 fn main(rt: HostRuntime) {
     let mut input = input_space();
     let got = take_input(&rt, &mut input);

@@ -10,7 +10,6 @@ use Prim.Native.Nat.{ℕ, ◌+◌, ◌*◌, ◌≤◌, ◌<◌, min, max}
 use native.Mathlib.Numerals.{add-one}
 use native.Mathlib.Omega.{arith}
 use borrow.Author.Rules.{rules}
-use borrow.Author.Tests.{eq-eqb, ne_eqb}
 use lib.Dec.{eqb}
 use lib.ListN.{length, set, take, drop}
 use lib.Seq.{take-suc-set, take-append-le, length-take-le}
@@ -28,15 +27,15 @@ module _ (said table : List ℕ) where
   keys : List Statement → List ℕ
   keys l = map pair_key (map (lower_first (rep_at table)) (differences_of l))
 
-  key-noted : (k : ℕ) → keys (statement_in said k ∷ []) ≡ note_of (kind_in said k) (stated_key said table k)
+  key-noted : (k : ℕ) → keys (statement_in said k ∷ []) ≡ note_of (eqb (kind_in said k) 2) (stated_key said table k)
   unfolding keys differences_of statement_of note_of
   key-noted k = go (eqb (kind_in said k) 2) refl
     where
-      go : (b : Bool) → eqb (kind_in said k) 2 ≡ b → keys (statement_in said k ∷ []) ≡ note_of (kind_in said k) (stated_key said table k)
+      go : (b : Bool) → eqb (kind_in said k) 2 ≡ b → keys (statement_in said k ∷ []) ≡ note_of (eqb (kind_in said k) 2) (stated_key said table k)
       go true e = rw (statement_of, note_of, e)
       go false e = rw (statement_of, note_of, e)
 
-  pub keys-more : (k : ℕ) → keys_to said table (k + 1) ≡ keys_to said table k ++ note_of (kind_in said k) (stated_key said table k)
+  pub keys-more : (k : ℕ) → keys_to said table (k + 1) ≡ keys_to said table k ++ note_of (eqb (kind_in said k) 2) (stated_key said table k)
   unfolding keys keys_to each
   keys-more k =
       ap (keys_to said table) (add-one k)
@@ -67,14 +66,15 @@ pub key-stated : (said table : List ℕ) (k p q x y r : ℕ) → p ≡ left_in s
     → r ≡ pair_key (min x y, max x y) → r ≡ stated_key said table k
 key-stated said table k p q x y r e f g h d = rw (g, h, e, f) at d
 
-pub noted-none : (given : List ℕ) (n kind key : ℕ) → kind ≡ 2 → Noted given n kind key given n
+pub noted-none : (given : List ℕ) (n : ℕ) (equation : Bool) (key : ℕ) → equation ≡ true → Noted given n equation key given n
 unfolding note_of
-noted-none given n kind key e = record { made = rw (note_of, eq-eqb kind 2 e) (sym (append-nil (take n given))); small = omega arith }
+noted-none given n equation key e = record { made = rw (note_of, e) (sym (append-nil (take n given))); small = omega arith }
 
-pub noted_one : (given : List ℕ) (n kind key : ℕ) → n < length given → (kind ≡ 2 → ⊥) → Noted given n kind key (set given n key) (n + 1)
+pub noted_one : (given : List ℕ) (n : ℕ) (equation : Bool) (key : ℕ) → n < length given → equation ≡ false
+    → Noted given n equation key (set given n key) (n + 1)
 unfolding note_of
-noted_one given n kind key h e =
-    record { made = rw (note_of, ne_eqb kind 2 e, add-one n) (take-suc-set given n key h); small = omega arith }
+noted_one given n equation key h e =
+    record { made = rw (note_of, e, add-one n) (take-suc-set given n key h); small = omega arith }
 
 -- ---- the loop
 
@@ -99,10 +99,10 @@ module _ {said table places : List ℕ} {size m n k : ℕ} (g : Gathering said t
   pub gathering-room : Keyable said table size → k < m → n < length places
   gathering-room f h = omega (arith, g.small, g.all, g.long, f.room)
 
-  pub gathering-step : {after : List ℕ} {kind key r : ℕ} → k < m
-      → kind ≡ kind_in said k → key ≡ stated_key said table k → Noted places n kind key after r → length after ≡ length places
+  pub gathering-step : {after : List ℕ} {equation : Bool} {key r : ℕ} → k < m
+      → equation ≡ eqb (kind_in said k) 2 → key ≡ stated_key said table k → Noted places n equation key after r → length after ≡ length places
       → Gathering said table size m after r (k + 1)
-  gathering-step {after} {kind} {key} {r} h e f d l =
+  gathering-step {after} {equation} {key} {r} h e f d l =
       record {
         made = d.made ∙ rw (e, f, g.made) (sym (keys-more said table k));
         small = omega (arith, d.small, g.small);

@@ -5,7 +5,7 @@
 --     note_of, Noted, Gathered     what a statement adds to some keys; the keys of all differences at the front of a space
 --     KeysIn                      the same, ascending and without repeats
 -- Assumes nothing.
-use Rattle.std.specs.Prelude.{true, false, List, [], ◌∷◌, ◌++◌, map, ◌≡◌, ℕ, ◌+◌, ◌*◌, ◌≤◌, eqb, length, take}
+use Rattle.std.specs.Prelude.{Bool, true, false, List, [], ◌∷◌, ◌++◌, map, ◌≡◌, ℕ, ◌+◌, ◌*◌, ◌≤◌, length, take}
 use Rattle.meaning.specs.Context.{differences_of}
 use Rattle.meaning.specs.Equality.{rep_at}
 use Rattle.meaning.specs.Writing.{lower_first}
@@ -34,11 +34,11 @@ pub record Keyable (said table : List ℕ) (size : ℕ) : Type 0 where
   pub room : said_count said ≤ size
 
 -- what a statement of a kind adds
-unfoldable pub note_of : ℕ → ℕ → List ℕ
-note_of kind key = elim (eqb kind 2) [ true ↦ [] | false ↦ key ∷ [] ]
+unfoldable pub note_of : Bool → ℕ → List ℕ
+note_of equation key = elim equation [ true ↦ [] | false ↦ key ∷ [] ]
 
-pub record Noted (given : List ℕ) (n kind key : ℕ) (after : List ℕ) (m : ℕ) : Type 0 where
-  pub made : take m after ≡ take n given ++ note_of kind key
+pub record Noted (given : List ℕ) (n : ℕ) (equation : Bool) (key : ℕ) (after : List ℕ) (m : ℕ) : Type 0 where
+  pub made : take m after ≡ take n given ++ note_of equation key
   pub small : m ≤ n + 1
 
 pub record Gathered (said table after : List ℕ) (n : ℕ) : Type 0 where

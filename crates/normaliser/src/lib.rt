@@ -1,4 +1,5 @@
 // The normaliser: the one canonical text of a context, or a refusal.
+// A space and a place in it stay two parameters: the writers of reply_lines take them so.
 #![tactic(auto)]
 
 mod keys;

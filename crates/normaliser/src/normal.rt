@@ -1,5 +1,5 @@
 // The normal text of a context whose representatives are known.
-ghost use Rattle.std.specs.Prelude.{◌≡◌, ◌+◌, ◌*◌, ◌<◌, ◌≤◌, length, replicate};
+ghost use Rattle.std.specs.Prelude.{◌≡◌, ◌+◌, ◌*◌, ◌<◌, ◌≤◌, length};
 ghost use Rattle.runs.specs.Limits.{most_rows, most_statements};
 ghost use Rattle.runs.specs.Runs.{row_count, count_in};
 ghost use Rattle.runs.specs.Fit.{RowAt};
@@ -30,8 +30,7 @@ fn byte(x: usize) -> u8
     (x % 256) as u8
 }
 
-// ---- the rows
-
+// The fields of a row's line.
 fn row_fields(rows: &[u16], i: usize) -> [u8; FIELDS]
     requires { i < row_count rows.now }
     ensures { result ≡ row_fields rows.now i }
@@ -92,8 +91,7 @@ fn rows_length(rows: &[u16]) -> usize
     sum
 }
 
-// ---- the equations of the representatives
-
+// The equation of row i and its representative, where that is another row.
 fn put_join(table: &[u16], i: usize, lent: &mut [u8], at: usize) -> usize
     requires { JoinRoom table.now i lent.old at }
     ensures { Put lent.old at (join_piece table.now i) result lent.new }
@@ -135,8 +133,7 @@ fn joins_length(table: &[u16], n: usize) -> usize
     sum
 }
 
-// ---- the differences
-
+// The line of a difference, by its key.
 fn put_key(key: u32, lent: &mut [u8], at: usize) -> usize
     requires { LineRoom pair_fields at lent.old }
     ensures { Put lent.old at (key_line key) result lent.new }
@@ -155,8 +152,6 @@ fn put_keys(keys: &[u32], lent: &mut [u8], at: usize) -> usize
     }
     to
 }
-
-// ---- the whole
 
 // The bytes of the text with n differences.
 fn text_length(rows: &[u16], table: &[u16], n: usize) -> usize
@@ -203,12 +198,6 @@ fn write_with(
     Ok(length)
 }
 
-fn no_keys() -> [u32; STATEMENTS]
-    ensures { result ≡ replicate most_statements 0 }
-{
-    [0; STATEMENTS]
-}
-
 pub(crate) fn write_normal(
     rows: &[u16],
     said: &[u16],
@@ -218,7 +207,7 @@ pub(crate) fn write_normal(
     requires { Writable rows.now said.now table.now }
     ensures { WritesNormal rows.now said.now table.now lent.old result lent.new }
 {
-    let mut keys = no_keys();
-    let mut spare = no_keys();
+    let mut keys = [0; STATEMENTS];
+    let mut spare = [0; STATEMENTS];
     write_with(rows, said, table, &mut keys, &mut spare, lent)
 }

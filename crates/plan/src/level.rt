@@ -34,7 +34,7 @@ fn level(patterns: &Patterns, levels: &[u8; 64], i: usize) -> u8
     requires { RowFits patterns.now i }
     ensures { result ≡ level_of levels.now (pattern_of (get_or patterns.now.kinds.now i 0) (get_or patterns.now.heads.now i 0) (args_at patterns.now.counts.now patterns.now.args.now i)) }
 {
-    if patterns.kinds[i] == 4 {
+    if patterns.is_variable(i) {
         return over_variable(patterns.heads[i]);
     }
     over_args(patterns, levels, i)
@@ -52,17 +52,19 @@ pub(crate) fn levels(patterns: &Patterns) -> [u8; 64]
 }
 
 // A variable's number and one, and 0 for a symbol.
+// No Option: what counts is how many variables there are, and that is 0.
 fn reached(patterns: &Patterns, i: usize) -> u8
     requires { (i < 64) × (get_or patterns.now.kinds.now i 0 ≡ 4 → get_or patterns.now.heads.now i 0 < 4) }
     ensures { result ≡ reached_of patterns.now.kinds.now patterns.now.heads.now i }
 {
-    if patterns.kinds[i] == 4 {
+    if patterns.is_variable(i) {
         return over_variable(patterns.heads[i]);
     }
     0
 }
 
 // The highest variable number and one, or 0.
+// No Option: what counts is how many variables there are, and that is 0.
 pub(crate) fn variables(patterns: &Patterns) -> u8
     requires { RuleFits patterns.now }
     ensures { result ≡ variables_of (patterns_in patterns.now) }

@@ -1,10 +1,12 @@
 // What a search for the first breach of a clause rests on, found from the clause alone.
+// Beside search_plan, over runs: the search walks columns.
 #![tactic(auto)]
 
 ghost use Rattle.std.specs.Prelude.{◌≡◌};
 ghost use Rattle.columns.specs.Lent.{WrittenIn, FitsRule};
 ghost use Rattle.plan.specs.Plans.{PlannedBy, PlansFor};
 
+use arrange::Order;
 use columns::Rule;
 
 mod arrange;
@@ -15,6 +17,7 @@ mod reach;
 // The levels of the pattern rows; the rows by level and then by row, those of level k from ends[k] up to ends[k + 1]; 1 for each variable that
 // no literal reaches, other than those that say p = p; and whether some literal says that p and p differ.
 // Fixed memory, no heap: a number for each of 64 pattern rows.
+// Bytes and no bools in free: callers read and lend these marks.
 #[derive(Clone, Copy)]
 pub struct Plan {
     pub variables: u8,
@@ -31,9 +34,7 @@ fn planned(rule: &Rule) -> Plan
     ensures { PlannedBy rule.now result }
 {
     let levels = level::levels(&rule.patterns);
-    let arranged = arrange::arrange(&levels, rule.patterns.rows);
-    let order = arranged.rows;
-    let ends = arranged.ends;
+    let Order { rows: order, ends } = arrange::arrange(&levels, rule.patterns.rows);
     let variables = level::variables(&rule.patterns);
     let free = reach::free(rule);
     let never = reach::never(&rule.literals);

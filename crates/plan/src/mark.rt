@@ -1,4 +1,5 @@
 // Which pattern rows have a variable in their terms: 1 for each that has, and 0.
+// Bytes and no bools: a symbol's mark is the highest of its arguments', as its level is.
 ghost use Rattle.std.specs.Prelude.{◌≡◌};
 ghost use Rattle.columns.specs.Lent.{patterns_in};
 ghost use Rattle.meaning.specs.Pruning.{touches};
@@ -21,7 +22,7 @@ fn mark(patterns: &Patterns, marks: &[u8; 64], v: u16, i: usize) -> u8
     requires { RowFits patterns.now i }
     ensures { result ≡ mark_at patterns.now.kinds.now patterns.now.heads.now patterns.now.counts.now patterns.now.args.now marks.now v i }
 {
-    if patterns.kinds[i] == 4 {
+    if patterns.is_variable(i) {
         return digit(patterns.heads[i] == v);
     }
     over_args(patterns, marks, i)

@@ -39,6 +39,7 @@ pub(crate) fn rows_run(t: Table) -> [u16; ROW_SPACE]
     let mut run = [0; ROW_SPACE];
     for i in 0..few(t.count, ROWS) {
         let row = rows[i];
+        // The four places one by one: the proof joins them.
         let places = [row.args[0], row.args[1], row.args[2], row.args[3]];
         put_row(&mut run, i, row.symbol, u16::from(row.count), places);
     }

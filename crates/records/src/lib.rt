@@ -65,6 +65,7 @@ pub struct Table {
 }
 
 // As many as there is room for: all, or none of too many.
+// 0 and no Option: it is how many are copied.
 fn within(n: usize) -> usize
     ensures { result ≡ room n }
 {

@@ -17,6 +17,7 @@ use values::value::Reading;
 
 // What is searched: pattern rows that are read level by level, the rows of level k from ends[k] up to ends[k + 1] in their order, and literals,
 // each tried at the level of its sides. A variable whose mark in free is 1 takes its first row alone, and the assignments begin with one.
+// Bytes and no bools in free: the marks are the plan's.
 #[derive(Clone, Copy)]
 pub(crate) struct Hunt<'a> {
     classed: Classed<'a>,
@@ -145,6 +146,7 @@ fn seek(hunt: &Hunt, known: &mut [u8; 65025], k: u8, chosen: [u16; 4], values: &
 }
 
 // The first breach at or after an assignment.
+// No struct: the first five are lent, and the last two are what the two kinds of search differ in.
 pub(crate) fn start(
     classed: &Classed,
     table: &[u16; 255],

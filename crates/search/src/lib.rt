@@ -16,6 +16,7 @@ mod hunt;
 mod literal;
 
 // A breach of so many variables, none, or columns that are not well-formed.
+// No Result of an Option: each of the three is told apart by callers.
 #[derive(Clone, Copy)]
 pub enum Kind {
     Breach(u8),
@@ -103,6 +104,7 @@ pub fn find_in(context: &Context, table: &[u16; 255], rule: &Rule) -> Reply
 }
 
 // The places of the assignment from the number of variables on are not read.
+// Beside find_with: the two end early for reasons of their own.
 pub fn next_with(
     classed: &Classed,
     table: &[u16; 255],
@@ -129,6 +131,7 @@ pub fn next_with(
 }
 
 // The places of the assignment from the number of variables on are not read.
+// Beside find_in: what is closed here is lent to the one call.
 pub fn next_in(context: &Context, table: &[u16; 255], rule: &Rule, after: [u16; 4]) -> Reply
     ensures { NextFor context.now table.now rule.now after result }
 {

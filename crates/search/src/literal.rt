@@ -12,6 +12,7 @@ use columns::Literals;
 use differing::Classed;
 
 // Whether literal l holds, where it is one of those whose last variable has just been set.
+// No struct: what is known is written, and the rest is read.
 fn passes(
     classed: &Classed,
     known: &mut [u8; 65025],
@@ -27,12 +28,7 @@ fn passes(
     ensures value { result ≡ passes_of (differ_by (context_in classed.now.context)) (due level levels.now) values.now (literal_of (get_or literals.now.signs.now l 0) (get_or literals.now.lefts.now l 0) (get_or literals.now.rights.now l 0)) }
     ensures knows_2 { Knows (context_in classed.now.context) known.new }
 {
-    let Literals {
-        signs,
-        lefts,
-        rights,
-        ..
-    } = *literals;
+    let Literals { lefts, rights, .. } = *literals;
     let p = usize::from(lefts[l]);
     let q = usize::from(rights[l]);
     if levels[p].max(levels[q]) != level {
@@ -40,7 +36,7 @@ fn passes(
     }
     let n = values[p];
     let m = values[q];
-    if signs[l] == 6 {
+    if literals.is_equal(l) {
         return n == m;
     }
     differing::ask(classed, known, n, m)

@@ -4,20 +4,23 @@
 --     Walk                              the members before a place have been seen
 --     walk_start, walk_step, walk-done  none, one member more, and all
 -- Assumes nothing.
-use mathlib.Core.Bool.{false}
+use mathlib.Core.Bool.{Bool, true, false}
 use mathlib.Core.List.{List}
-use mathlib.Core.Path.{◌≡◌, ap, sym, ◌∙◌}
+use mathlib.Core.Path.{◌≡◌, refl, ap, sym, ◌∙◌}
 use mathlib.Core.Logic.{⊎_elim}
 use Prim.Native.Nat.{ℕ, ◌+◌, ◌-◌, ◌≤◌, ◌<◌}
 use native.Mathlib.Omega.{arith}
 use native.Mathlib.Decide.{dec_lt, ℕ_discrete}
 use borrow.Author.Rules.{rules}
+use borrow.Author.Tests.{ltb-true, ltb-false}
+use lib.Dec.{ltb}
 use lib.ListN.{length}
+use Rattle.std.specs.Bool.{then_some}
 use Rattle.meaning.specs.Equality.{rep_at}
 use Rattle.meaning.proofs.Logic.{false-true}
 use Rattle.bits.specs.Sets.{has, NoneFrom, First}
 use Rattle.search_pairs.specs.Ready.{words_for}
-use Rattle.search_pairs.specs.Steps.{Space, Labelled, ClassAt, NoClass, MemberAt, NoMember, Own}
+use Rattle.search_pairs.specs.Steps.{Space, Labelled, NextClass, ClassAt, NoClass, MemberAt, NoMember, Own}
 
 -- ---- the next number of a set
 
@@ -27,6 +30,13 @@ module _ (n : ℕ) (ws : List ℕ) (base w from : ℕ) (e : w ≡ words_for n) w
 
   pub class-past : (k : ℕ) → First ws base w from k → n ≤ k → NoClass n ws base from
   class-past k f h = record { none = λ a l i. f.first a l (omega arith) }
+
+  pub class-told : (k : ℕ) → First ws base w from k → NextClass n ws base from (then_some (ltb k n) k)
+  class-told k f = go (ltb k n) refl
+    where
+      go : (b : Bool) → ltb k n ≡ b → NextClass n ws base from (then_some b k)
+      go true h = class-some k f (ltb-true _ _ h)
+      go false h = class-past k f (ltb-false _ _ h)
 
   pub class-none : NoneFrom ws base w from → NoClass n ws base from
   class-none f = record { none = λ a l i. f.none a l (omega (arith, e)) }

@@ -268,7 +268,7 @@ module _ (n : ℕ) (said table : List ℕ) (k : ℕ) (sets : List ℕ) (w : Told
   pub told-statement : k < said_count said
   told-statement = w.statement
 
-  pub tell-same : (c : ℕ) → c ≡ kind_in said k → c ≡ 2 → Telling n said table (k + 1) sets
+  pub tell-same : (c : Bool) → c ≡ eqb (kind_in said k) 2 → c ≡ true → Telling n said table (k + 1) sets
   tell-same c ec e =
       record {
         long = w.told.long;
@@ -278,7 +278,7 @@ module _ (n : ℕ) (said table : List ℕ) (k : ℕ) (sets : List ℕ) (w : Told
       }
     where
       as_before : (a b : ℕ) → apart_by (rep_at table) (differences_of (each (statement_in said) (k + 1))) a b ≡ apart_by (rep_at table) (differences_of (each (statement_in said) k)) a b
-      as_before a b = apart_next (rep_at table) said k a b ∙ or-false _ _ (says-equal (rep_at table) said k a b (sym ec ∙ e))
+      as_before a b = apart_next (rep_at table) said k a b ∙ or-false _ _ (says-equal (rep_at table) said k a b (eqb-true _ _ (sym ec ∙ e)))
 
   module _ (l r x y : ℕ) (el : l ≡ left_in said k) (er : r ≡ right_in said k) (ex : x ≡ rep_at table l) (ey : y ≡ rep_at table r) where
     pub tell-pair : Pair n (length sets) x y
@@ -290,7 +290,7 @@ module _ (n : ℕ) (said table : List ℕ) (k : ℕ) (sets : List ℕ) (w : Told
           right = omega (arith, w.inside.each r (omega (arith, (w.named.each k w.statement).right)));
         }
 
-    pub tell-apart : (c : ℕ) (new : List ℕ) → c ≡ kind_in said k → (c ≡ 2 → ⊥) → ApartPut n x y sets new → Telling n said table (k + 1) new
+    pub tell-apart : (c : Bool) (new : List ℕ) → c ≡ eqb (kind_in said k) 2 → c ≡ false → ApartPut n x y sets new → Telling n said table (k + 1) new
     tell-apart c new ec d p =
         record {
           long = p.long ∙ w.told.long;
@@ -300,7 +300,7 @@ module _ (n : ℕ) (said table : List ℕ) (k : ℕ) (sets : List ℕ) (w : Told
         }
       where
         said-so : (a b : ℕ) → apart_by (λ v. v) ((x, y) ∷ []) a b ≡ apart_by (rep_at table) (differences_of (statement_in said k ∷ [])) a b
-        said-so a b = says-apart (rep_at table) said k a b x y (λ e. d (ec ∙ e)) (ex ∙ ap (rep_at table) el) (ey ∙ ap (rep_at table) er)
+        said-so a b = says-apart (rep_at table) said k a b x y (eqb-false _ _ (sym ec ∙ d)) (ex ∙ ap (rep_at table) el) (ey ∙ ap (rep_at table) er)
 
         inner : (a b : ℕ) → ((a ≡ x) × (b ≡ y)) ⊎ ((b ≡ x) × (a ≡ y)) → (a < n) × (b < n)
         inner a b (inl v) = (omega (arith, v.0, tell-pair.left), omega (arith, v.1, tell-pair.right))

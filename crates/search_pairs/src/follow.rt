@@ -15,6 +15,7 @@ fn own_labels(labels: &mut [u16], work: &[u64], n: usize)
 {
     let w = words(n);
     let mut from = 0;
+    // No iterator: `next_class` has none.
     while let Some(k) = next_class(work, w, n, from) {
         labels[k] = k as u16;
         from = k + 1;
@@ -57,6 +58,7 @@ impl<'a> Closed<'a> {
         if (Sets { sets: self.sets, n }).meet(labels, work, x, y) {
             return true;
         }
+        // No iterator: each turn writes the words that the loop walks, and the walk begins anew.
         while let Some(r) = next_class(work, 0, n, 0) {
             if self.turn(labels, work, r) {
                 return true;

@@ -10,6 +10,7 @@ use super::mates::at_place;
 use bits::{count, insert, member, next, unite};
 
 // The sets of n rows, one behind the other.
+// No ghost field: members are asked for with the sets of the moment.
 #[derive(Clone, Copy)]
 pub(crate) struct Sets<'a> {
     pub(crate) sets: &'a [u64],
@@ -37,16 +38,18 @@ pub(crate) fn start(n: usize, s: usize) -> usize
 }
 
 // The next of n numbers from a place on that is in the set whose words start at `base`.
+// No iterator: some of the loops write the words that they walk.
 pub(crate) fn next_class(set: &[u64], base: usize, n: usize, from: usize) -> Option<usize>
     requires n_bound { words_for n ≤ most_words }
     requires base_in_bounds { base + words_for n ≤ length set.now }
     ensures { NextClass n set.now base from result }
 {
     let k = next(set, base, words(n), from)?;
-    if k < n { Some(k) } else { None }
+    (k < n).then_some(k)
 }
 
 // The next class from a place on that has label z.
+// No iterator: some of the loops write the marks beside it.
 pub(crate) fn next_member(
     labels: &[u16],
     work: &[u64],
@@ -64,6 +67,7 @@ pub(crate) fn next_member(
     }
     let w = words(n);
     let mut at = from;
+    // No iterator: `next_class` has none.
     while let Some(k) = next_class(work, w, n, at) {
         if at_place(labels, k) == z {
             return Some(k);
@@ -96,6 +100,7 @@ fn relabel(labels: &mut [u16], work: &[u64], n: usize, lo: usize, hi: usize)
     labels[hi] = lo as u16;
     let w = words(n);
     let mut from = 0;
+    // No iterator: `next_class` has none.
     while let Some(k) = next_class(work, w, n, from) {
         labels[k] = moved(lo, hi, labels[k]);
         from = k + 1;
@@ -114,6 +119,7 @@ impl<'a> Sets<'a> {
     {
         let base = start(self.n, self.n + self.n + a);
         let mut from = 0;
+        // No iterator: `next_member` has none.
         while let Some(k) = next_member(labels, work, self.n, y, from) {
             if member(self.sets, base, k) {
                 return true;
@@ -132,6 +138,7 @@ impl<'a> Sets<'a> {
         ensures { Clashing self.now labels.now x y result }
     {
         let mut from = 0;
+        // No iterator: `next_member` has none.
         while let Some(k) = next_member(labels, work, self.n, x, from) {
             if self.apart_from(labels, work, k, y) {
                 return true;
@@ -151,6 +158,7 @@ impl<'a> Sets<'a> {
     {
         let w = words(self.n);
         let mut from = 0;
+        // No iterator: the loop writes the marks in the words that it walks.
         while let Some(k) = next_member(labels, work, self.n, z, from) {
             unite(work, 0, self.sets, start(self.n, k), w);
             from = k + 1;
@@ -166,6 +174,7 @@ impl<'a> Sets<'a> {
         let w = words(self.n);
         let base = start(self.n, a);
         let mut sum: u32 = 0;
+        // By index: the invariant speaks of places.
         for i in 0..w {
             sum += count(self.sets[base + i]);
         }
@@ -206,11 +215,7 @@ impl<'a> Sets<'a> {
         requires { Meets self.now labels.old work.old x y }
         ensures { Joined self.now x y labels.old work.old labels.new work.new }
     {
-        if x < y {
-            self.lower(labels, work, x, y);
-            return;
-        }
-        self.lower(labels, work, y, x);
+        self.lower(labels, work, x.min(y), x.max(y));
     }
 
     // The labels x and y become one; or members of them are kept apart, and the answer is so.

@@ -21,6 +21,7 @@ use mates::at_place;
 use runs::row_count;
 
 // A closed context: its rows, the table of its classes, and the sets that were prepared of them.
+// No ghost field: its makers fill three public fields, and the contracts of each question say what is asked of them.
 #[derive(Clone, Copy)]
 pub struct Closed<'a> {
     pub rows: &'a [u16],
@@ -73,8 +74,8 @@ impl<'a> Sets<'a> {
     }
 }
 
+// Labels and marks are no struct: calls lend both of them at once.
 impl<'a> Closed<'a> {
-    // Labels and marks are no struct: calls lend both of them at once.
     // The equation of two classes followed and taken back.
     fn tried(&self, labels: &mut [u16], work: &mut [u64], x: usize, y: usize) -> bool
         requires { TwoClasses self.now labels.old work.old x y }

@@ -13,10 +13,7 @@ use runs::{arg_in, count_in, row_count, symbol_in};
 pub(crate) fn at_place(table: &[u16], i: usize) -> usize
     ensures { result ≡ rep_at table.now i }
 {
-    match table.get(i) {
-        Some(x) => usize::from(*x),
-        None => 0,
-    }
+    table.get(i).map_or(0, |x| usize::from(*x))
 }
 
 impl<'a> Closed<'a> {
@@ -57,6 +54,7 @@ impl<'a> Closed<'a> {
         requires j_bound { j < row_count self.now.rows.now }
         ensures { result ≡ agree_by (label_by self.now.table.now labels.now) (rows_of self.now.rows.now) i j }
     {
+        // Returns and no one expression: the count stands in a test and after it.
         if symbol_in(self.rows, i) != symbol_in(self.rows, j) {
             return false;
         }
@@ -88,6 +86,7 @@ impl<'a> Closed<'a> {
         let n = row_count(self.rows);
         let base = start(n, a);
         let mut from = 0;
+        // No iterator: `next_class` has none.
         while let Some(s) = next_class(self.sets, base, n, from) {
             if self.differs(labels, r, s) {
                 return Some(s);
@@ -109,6 +108,7 @@ impl<'a> Closed<'a> {
     {
         let n = row_count(self.rows);
         let mut from = 0;
+        // No iterator: `next_member` has none.
         while let Some(k) = next_member(labels, work, n, z, from) {
             if let Some(s) = self.seek_over(labels, r, k) {
                 return Some(s);

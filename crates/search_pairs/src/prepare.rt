@@ -12,10 +12,7 @@ use super::is_live;
 use super::labels::start;
 use super::mates::at_place;
 use bits::{empty, insert};
-use runs::{arg_in, count_in, kind_in, left_in, right_in, row_count, said_count, symbol_in};
-
-// The statements that are equations.
-const EQUATION: u16 = 2;
+use runs::{arg_in, count_in, is_equation, left_in, right_in, row_count, said_count, symbol_in};
 
 // The n rows of a context, and the table of their classes.
 #[derive(Clone, Copy)]
@@ -87,7 +84,7 @@ fn tell(said: &[u16], table: &[u16], sets: &mut [u64], n: usize, k: usize)
     requires { Told n said.now table.now k sets.old }
     ensures { Telling n said.now table.now (k + 1) sets.new }
 {
-    if kind_in(said, k) == EQUATION {
+    if is_equation(said, k) {
         return;
     }
     let x = at_place(table, left_in(said, k));
@@ -169,7 +166,7 @@ impl<'a> Ledger<'a> {
         requires { RowIn self.now (length sets.old) r }
         ensures { BesideRow self.now r (r + 1) sets.old sets.new }
     {
-        for s in 0..r + 1 {
+        for s in 0..=r {
             self.beside_rows(sets, r, s);
         }
     }
@@ -216,15 +213,12 @@ impl<'a> Ledger<'a> {
     }
 
     // The same for each row, from the last to the first.
-    // No `for`: from the last row down, the invariant speaks of the rows that are left.
     fn live_pass(&self, sets: &mut [u64]) -> bool
         requires { Base self.now (length sets.old) }
         ensures { LivePass self.now 0 sets.old sets.new result }
     {
         let mut added = false;
-        let mut r = self.n;
-        while 0 < r {
-            r -= 1;
+        for r in (0..self.n).rev() {
             added |= self.live_row(sets, r);
         }
         added

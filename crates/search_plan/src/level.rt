@@ -42,6 +42,8 @@ fn level(patterns: &[u16], levels: &[u8], i: usize) -> u8
     highest(patterns, levels, i)
 }
 
+// The level of each row.
+// Beside sets: the two calls differ, and so do the contracts.
 pub(crate) fn levels(patterns: &[u16], levels: &mut [u8])
     requires every { Every (pattern_count patterns.now) (PatternAt patterns.now) }
     requires levels_len { length levels.old ≡ pattern_count patterns.now }
@@ -55,6 +57,7 @@ pub(crate) fn levels(patterns: &[u16], levels: &mut [u8])
 }
 
 // A variable's number and one, and 0 for a symbol.
+// No Option: what counts is how many variables there are, and that is 0.
 fn reached(patterns: &[u16], i: usize) -> u8
     requires { RowFit patterns.now i i }
     ensures { result ≡ reached_of (pattern_in patterns.now i) }

@@ -38,6 +38,8 @@ pub struct Plan {
     pub never: bool,
 }
 
+// The level of each row, in a run of fixed length.
+// Beside reach_numbers: the two calls differ, and so do the contracts.
 fn level_numbers(patterns: &[u16]) -> [u8; PATTERNS]
     requires { RuleFit patterns.now }
     ensures { result ≡ row_numbers (levels_of (patterns_of patterns.now)) }
@@ -48,6 +50,8 @@ fn level_numbers(patterns: &[u16]) -> [u8; PATTERNS]
     run
 }
 
+// The variables of each row's term, in a run of fixed length.
+// Beside level_numbers: the two calls differ, and so do the contracts.
 fn reach_numbers(patterns: &[u16]) -> [u8; PATTERNS]
     requires { RuleFit patterns.now }
     ensures { result ≡ row_numbers (sets_of (patterns_of patterns.now)) }

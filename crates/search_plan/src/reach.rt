@@ -40,6 +40,8 @@ fn set_of(patterns: &[u16], sets: &[u8], i: usize) -> u8
     union(patterns, sets, i)
 }
 
+// The variables of each row's term.
+// Beside levels: the two calls differ, and so do the contracts.
 pub(crate) fn sets(patterns: &[u16], sets: &mut [u8])
     requires every { Every (pattern_count patterns.now) (PatternAt patterns.now) }
     requires sets_len { length sets.old ≡ pattern_count patterns.now }

@@ -1,6 +1,6 @@
 -- One law for each way into a loop that writes words, each turn and each way out; flags.
 --     set-small                              a place fits its type
---     copied-start .. copied-end             words copied
+--     copied-within                          words copied
 --     flag-on, flag_off, told-both           one bit as told; both flags of a row
 --     both_first, both-second, left-low      flags and sets read
 --     added                                  a member put in
@@ -11,7 +11,7 @@ use mathlib.Core.Bool.{Bool, true, false, not, ◌&&◌, ◌||◌}
 use mathlib.Core.List.{List}
 use mathlib.Core.Path.{◌≡◌, refl, ap, sym, ◌∙◌, subst}
 use mathlib.Core.Logic.{◌⊎◌, inl, inr}
-use Prim.Native.Nat.{ℕ, ◌+◌, ◌*◌, ◌/◌, ◌^◌, ◌%◌, ◌≤◌, ◌<◌}
+use Prim.Native.Nat.{ℕ, ◌+◌, ◌-◌, ◌*◌, ◌/◌, ◌^◌, ◌%◌, ◌≤◌, ◌<◌}
 use native.Mathlib.Nat.{mul-le-mul}
 use native.Mathlib.Omega.{arith}
 use borrow.Author.Rules.{rules}
@@ -21,9 +21,10 @@ use lib.Dec.{eqb}
 use lib.ListN.{length, get_or, set, length-set}
 use lib.Seq.{get_or-set_same, get_or-set_other}
 use Rattle.std.specs.Prelude.{Option, None, Some}
+use Rattle.std.specs.List.{CopiedTo, SameBelow, SameFrom}
 use Rattle.meaning.proofs.Logic.{false-true}
 use Rattle.std.specs.Option.{is_some}
-use Rattle.bits.specs.Sets.{bit_at, Places, Low, Met}
+use Rattle.bits.specs.Sets.{bit_at, Low, Met}
 use Rattle.bits.proofs.Words.{or-has, without-has, only-has}
 use Rattle.search_sets.specs.Places.{most_words}
 use Rattle.search_sets.specs.Words.{Copied, Flagged, Told, Left, Narrowable, Narrowed, Pairable, Paired, Added, MetWith, Cuttable, CutRow}
@@ -31,43 +32,20 @@ use Rattle.search_sets.specs.Words.{Copied, Flagged, Told, Left, Narrowable, Nar
 pub set-small : (width q : ℕ) → width ≤ most_words → q < 69 → q * width < 2 ^ 64
 set-small width q h l = let l' : q ≤ 69 = omega arith in let m : q * width ≤ 69 * 16 = mul-le-mul l' h in omega (arith, m)
 
-pub copied-start : (ws : List ℕ) (a b i : ℕ) → i ≡ 0 → Copied ws ws a b i
-copied-start ws a b i e = record { long = refl; words = λ j h. absurd (omega arith); others = λ j h. refl }
-
-pub copied-turn : (old new : List ℕ) (a b n i w m : ℕ) → Places (length old) a b n → i < n → Copied old new a b i → w ≡ get_or new (b + i) 0 → m ≡ i + 1 → Copied old (set new (a + i) w) a b m
-copied-turn old new a b n i w m p h k e q =
+pub copied-within : (old new : List ℕ) (a b n m : ℕ) → m ≡ n → length new ≡ length old → CopiedTo old new b a m → SameBelow old new a → SameFrom old new (a + m) → Copied old new a b n
+copied-within old new a b n m e l c below from =
     record {
-      long = length-set new (a + i) w ∙ k.long;
-      words = λ j l. word j l (eqb j i) refl;
-      others = λ j l. get_or-set_other new (a + i) j w 0 (λ z. outside j l z) ∙ k.others j (wider j l);
+      long = l;
+      words = λ j h. c (a + j) 0 (omega arith) (omega arith) ∙ ap (λ (k : ℕ). get_or old (b + k) 0) (back j);
+      others = λ j h. other j h;
     }
   where
-    inside : a + i < length new
-    inside = omega (arith, k.long, p.left, h)
+    back : (j : ℕ) → a + j - a ≡ j
+    back j = omega arith
 
-    other : (b + i < a) ⊎ (a + i ≤ b + i)
-    other = go p.apart
-      where
-        go : (a + n ≤ b) ⊎ (b + n ≤ a) → (b + i < a) ⊎ (a + i ≤ b + i)
-        go (inl z) = inr (omega arith)
-        go (inr z) = inl (omega arith)
-
-    word : (j : ℕ) → j < m → (c : Bool) → eqb j i ≡ c → get_or (set new (a + i) w) (a + j) 0 ≡ get_or old (b + j) 0
-    word j l true z =
-        let t : j ≡ i = eqb-true j i z in
-        rw t (get_or-set_same new (a + i) w 0 inside ∙ e ∙ k.others (b + i) other)
-    word j l false z = get_or-set_other new (a + i) (a + j) w 0 (λ t. eqb-false j i z (omega arith)) ∙ k.words j (omega (arith, eqb-false j i z))
-
-    outside : (j : ℕ) → (j < a) ⊎ (a + m ≤ j) → j ≡ a + i → ⊥
-    outside j (inl l) z = omega arith
-    outside j (inr l) z = omega arith
-
-    wider : (j : ℕ) → (j < a) ⊎ (a + m ≤ j) → (j < a) ⊎ (a + i ≤ j)
-    wider j (inl l) = inl l
-    wider j (inr l) = inr (omega arith)
-
-pub copied-end : (old new : List ℕ) (a b n i : ℕ) → Copied old new a b i → i ≤ n → n ≤ i → Copied old new a b n
-copied-end old new a b n i k h l = let e : i ≡ n = omega arith in subst (Copied old new a b) e k
+    other : (j : ℕ) → (j < a) ⊎ (a + n ≤ j) → get_or new j 0 ≡ get_or old j 0
+    other j (inl h) = below j 0 h
+    other j (inr h) = from j 0 (omega arith)
 
 -- ---- flags
 
@@ -206,4 +184,4 @@ row_cut old more met new size at a b n p h m t =
       outside = subst (λ (x : ℕ). Flagged x p false (get_or new (at + 1) 0)) (m.others (at + 1) (inr (omega (arith, h.low)))) t.outside;
     }
 
-pub ruleset mine = (rules, with-start, with-turn, with-end, cut-room, row_cut, added, narrowable-again, paired, narrowed, both_first, both-second, left-low, set-small, copied-start, copied-turn, copied-end, flag-on, flag_off, told-both)
+pub ruleset mine = (rules, with-start, with-turn, with-end, cut-room, row_cut, added, narrowable-again, paired, narrowed, both_first, both-second, left-low, set-small, copied-within, flag-on, flag_off, told-both)

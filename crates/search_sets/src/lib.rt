@@ -46,7 +46,6 @@ impl Layout {
         let flags = set_at(self.width, self.count + VARIABLES);
         if marked(sets, flags, p) {
             meet(sets, at, set_at(self.width, p), self.width);
-            return some(sets, at, self.width);
         }
         some(sets, at, self.width)
     }

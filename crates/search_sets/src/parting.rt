@@ -52,6 +52,7 @@ impl<'a> Differences<'a> {
         ensures { Parted sets.now self.now.apart.now scratch.old scratch.new base self.now.width self.now.n }
     {
         let mut from = 0;
+        // No iterator: `next` has none.
         while let Some(k) = next(sets, base, self.width, from) {
             if self.n <= k {
                 return;

@@ -1,4 +1,5 @@
 // Words written and flags, in the run of a search's sets.
+// Places and no slices: the sets of a search lie in one run.
 ghost use Rattle.std.specs.Prelude.{◌&&◌, ◌≡◌, ◌+◌, ◌*◌, ◌/◌, ◌<◌, ◌≤◌, length, get_or};
 ghost use Rattle.bits.specs.Sets.{bit_at, Places};
 ghost use Rattle.search_sets.specs.Places.{most_words};
@@ -19,10 +20,7 @@ pub(crate) fn copy(words: &mut [u64], a: usize, b: usize, n: usize)
     requires { Places (length words.old) a b n }
     ensures { Copied words.old words.new a b n }
 {
-    // No iterator: both places lie in one run.
-    for i in 0..n {
-        words[a + i] = words[b + i];
-    }
+    words.copy_within(b..b + n, a);
 }
 
 // A word with bit p as told.
@@ -113,6 +111,7 @@ pub(crate) fn clear(words: &mut [u64], a: usize, n: usize)
 }
 
 // k is put into the set from a on.
+// Beside bits::insert, whose contract says nothing of the words before the set.
 pub(crate) fn add(words: &mut [u64], a: usize, k: usize)
     requires { a + k / 64 < length words.old }
     ensures { Added words.old words.new a k }

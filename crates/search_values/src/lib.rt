@@ -39,6 +39,7 @@ fn fill(rows: &[u16], keys: &mut [u32])
     ensures { keys.new ≡ row_keys rows.now }
 {
     let n = keys.len();
+    // By index: the key is made from the row's number, and the invariant speaks of places.
     for i in 0..n {
         keys[i] = row_key(rows, i);
     }
@@ -60,6 +61,7 @@ impl<'a> Reading<'a> {
         ensures { values.new ≡ read_in self.now values.old from }
     {
         let n = self.order.len();
+        // By index: a row's value needs how many were read before it.
         for j in from..n {
             let row = usize::from(self.order[j]);
             let v = self.value_at(values, j, row);

@@ -30,6 +30,7 @@ impl<'a> Ledger<'a> {
     }
 
     // Whether the arguments of row i have the classes that are wanted.
+    // Beside the one of pattern rows: an argument's class comes from other runs, and the contracts differ.
     fn args_are(&self, i: usize, wanted: &[u32]) -> bool
         requires { RowFit self.now.rows.now (length self.now.table.now) i }
         ensures { result ≡ same_list wanted.now (map (rep_at self.now.table.now) (args_in self.now.rows.now i)) }

@@ -13,6 +13,7 @@ use runs::limits::PLACES;
 use runs::{head_in, is_variable, pattern_arg_in, pattern_count_in};
 
 // The value of a term outside the table that row is the first to have: above all classes.
+// No enum: a value is one number, and values are compared as numbers.
 fn own(row: usize) -> u32
     requires { row < most_patterns }
     ensures { result ≡ 65536 + row }
@@ -31,6 +32,7 @@ impl<'a> Reading<'a> {
     }
 
     // Whether the arguments of row q have the values that are wanted.
+    // Beside the one of context rows: an argument's value comes from other runs, and the contracts differ.
     fn args_are(&self, values: &[u32], q: usize, wanted: &[u32]) -> bool
         requires { ArgsFit self.now.patterns.now (length values.now) q }
         ensures { result ≡ same_list wanted.now (args_of values.now (pattern_args_in self.now.patterns.now q)) }

@@ -43,15 +43,13 @@ pub fn link(symbols: &[u16; 255], rows: usize) -> Chains
     requires { rows ≤ 255 }
     ensures { Chained symbols.now rows result.first result.next }
 {
-    let none = ended();
-    let mut first = none.first;
-    let mut next = none.next;
+    let mut chains = ended();
     for i in (0..rows).rev() {
         let b = bucket(symbols[i]);
-        next[i] = first[b];
-        first[b] = i as u16;
+        chains.next[i] = chains.first[b];
+        chains.first[b] = i as u16;
     }
-    Chains { first, next }
+    chains
 }
 
 // Whether row i has a symbol over so many classes.

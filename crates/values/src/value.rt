@@ -37,13 +37,12 @@ fn over(
     ensures { result ≡ is_over symbol (take count wanted) values.now (pattern_of (get_or patterns.now.kinds.now q 0) (get_or patterns.now.heads.now q 0) (args_at patterns.now.counts.now patterns.now.args.now q)) }
 {
     let Patterns {
-        kinds,
         heads,
         counts,
         args,
         ..
     } = *patterns;
-    if kinds[q] == 4 {
+    if patterns.is_variable(q) {
         return false;
     }
     if heads[q] != symbol {
@@ -61,6 +60,7 @@ fn over(
 }
 
 // The value of the first row read that is a symbol over so many values, or another.
+// No struct: the symbol, its count and the classes wanted are asked once.
 fn met(
     reading: &Reading,
     read: usize,
@@ -110,6 +110,7 @@ fn look(reading: &Reading, read: usize, values: &[u32; 64], row: usize, wanted: 
 }
 
 // The value of a row. Rows before the fresh one have been read, and their values come from the list.
+// No struct: the rest of what is handed on stays, and the row alone changes.
 #[cycle(term_walk)]
 fn term(
     reading: &Reading,
@@ -123,18 +124,18 @@ fn term(
     requires row_le_fresh { (row ≤ fresh) × (fresh < reading.now.patterns.rows) }
     ensures { result ≡ term_in reading.now chosen values.now read fresh row }
 {
-    let Patterns { kinds, heads, .. } = reading.patterns;
     if row < fresh {
         return values[row];
     }
-    if kinds[row] == 4 {
-        return given(heads, row, chosen);
+    if reading.patterns.is_variable(row) {
+        return given(reading.patterns.heads, row, chosen);
     }
     let w = walk(reading, read, chosen, values, fresh, row, 0, [0; 4]);
     look(reading, read, values, row, w)
 }
 
 // The values of the arguments of a row, from argument k on.
+// No struct: the place and what is done change from one argument to the next.
 #[cycle(term_walk)]
 fn walk(
     reading: &Reading,
@@ -167,9 +168,8 @@ fn value_at(reading: &Reading, read: usize, chosen: [u16; 4], values: &[u32; 64]
     requires row_lt_patterns { row < reading.now.patterns.rows }
     ensures { result ≡ term_in reading.now chosen values.now read row row }
 {
-    let Patterns { kinds, heads, .. } = reading.patterns;
-    if kinds[row] == 4 {
-        return given(heads, row, chosen);
+    if reading.patterns.is_variable(row) {
+        return given(reading.patterns.heads, row, chosen);
     }
     term(reading, read, chosen, values, row, row)
 }

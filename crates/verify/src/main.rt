@@ -17,6 +17,7 @@ use reply_lines::Line;
 use std::rt::{Env, Files};
 
 // What was taken in so far: there may be more, or the input ended.
+// No Option: what was taken in stands in either case.
 #[derive(Clone, Copy)]
 enum Taken {
     More(Parser),

@@ -1,15 +1,15 @@
 -- What the search tells is what the writer answers.
---     outcome-..       the search's answer as it is told
+--     outcome-answered the search's answer as it is told
 --     unfit-not-none   a failure would not be told as none
 --     seek-..          what is found is a breach, and its four places are those of the search; well-formed runs are never unfit
 --     mine             what these functions leave to show
 -- Assumes nothing.
 use mathlib.Core.List.{List, [], ◌∷◌}
 use mathlib.Core.Path.{◌≡◌, refl, sym, ap, ◌∙◌}
-use Prim.Native.Nat.{ℕ, ◌≤◌}
+use Prim.Native.Nat.{ℕ}
 use native.Mathlib.Omega.{arith}
 use borrow.Author.Rules.{rules}
-use lib.ListN.{length, take}
+use lib.ListN.{length}
 use Rattle.meaning.specs.Context.{Context}
 use Rattle.meaning.specs.Rules.{Clause, Found, found, nothing}
 use Rattle.meaning.specs.Replies.{breach, none, places_of}
@@ -17,7 +17,6 @@ use Rattle.runs.specs.Limits.{most_variables}
 use Rattle.runs.specs.Runs.{context_of, literal_count, clause_of}
 use Rattle.runs.proofs.Saying.{length-rows}
 use Rattle.replies.specs.Told.{told_by, told_of}
-use Rattle.replies.specs.declared.Outcome.{Outcome}
 use Rattle.replies.specs.declared.Outcome.TheVariants as O
 use Rattle.search.specs.Hunting.{answer_of}
 use Rattle.search.specs.Finding.{found_by}
@@ -27,19 +26,18 @@ use Rattle.search.specs.declared.Reply.{Reply as Searched}
 use Rattle.hunting.specs.Laid.{Ready}
 use Rattle.grounds_verdict.specs.declared.Conclusions.{Conclusions}
 use Rattle.writer.specs.Drawing.{Broken, Shows}
+use Rattle.replies.specs.declared.Reply.{Reply}
+use Rattle.finder.specs.Claims.{answered_with}
 use Rattle.writer.specs.Seeking.{bare_with, Draws, outcome_by, Seekable, Sought}
 use Rattle.writer.specs.declared.Grounds.{Grounds}
 use Rattle.writer.specs.declared.drawing.Support.{Support}
 use Rattle.writer.proofs.Placing.{placed-chosen, placed-holds}
 
-pub outcome-breach : (kind : Kind) (n : ℕ) → kind ≡ S.Breach n → O.Breach n ≡ outcome_by kind
-outcome-breach kind n e = rw e
-
-pub outcome-clear : (kind : Kind) → kind ≡ S.Clear → O.Clear ≡ outcome_by kind
-outcome-clear kind e = rw e
-
-pub outcome-unfit : (kind : Kind) → kind ≡ S.Unfit → O.Refused (record { number = 0; line = 0; offset = 0 }) ≡ outcome_by kind
-outcome-unfit kind e = rw e
+-- what the finder tells for the search's answer
+outcome-answered : (kind : Kind) (places : List ℕ) → (answered_with kind places).outcome ≡ outcome_by kind
+outcome-answered (S.Breach n) places = refl
+outcome-answered S.Clear places = refl
+outcome-answered S.Unfit places = refl
 
 -- a failure is not told as none
 pub unfit-not-none : told_by (outcome_by S.Unfit) ≡ told_of none → ⊥
@@ -102,18 +100,22 @@ module _ (rows said patterns literals table : List ℕ) (w : Seekable rows said 
         }
 
     module _ (steps : List (List ℕ)) where
-      pub seek-clear : x.kind ≡ S.Clear → (o : Outcome) → o ≡ outcome_by x.kind → (y : Grounds) → y ≡ bare_with o x.places
+      pub seek-clear : x.kind ≡ S.Clear → (r : Reply) → r ≡ answered_with x.kind x.places → (y : Grounds) → y ≡ bare_with r.outcome x.places
           → Sought rows said patterns literals table steps y steps
       unfolding bare_with places_of answer_of
-      seek-clear e o told y q = rw q (go (found_by c table k) refl)
+      seek-clear e r answered y q = rw q (go (found_by c table k) refl)
         where
-          go : (f : Found) → found_by c table k ≡ f → Sought rows said patterns literals table steps (bare_with o x.places) steps
+          go : (f : Found) → found_by c table k ≡ f → Sought rows said patterns literals table steps (bare_with r.outcome x.places) steps
           go (found a) f = absurd (let z : S.Clear ≡ S.Breach (length a) = sym e ∙ (answer-found (found a) f).0 in let i : ◌≡◌ {A = ℕ} 0 1 = cc in omega arith)
           go nothing f =
               record {
                 what = nothing;
                 finds = f;
-                told = ap told_by (told ∙ ap outcome_by (answer-found nothing f).0);
+                told =
+                    ap told_by
+                    (ap (λ (z : Reply). z.outcome) answered
+                    ∙ outcome-answered x.kind x.places
+                    ∙ ap outcome_by (answer-found nothing f).0);
                 places = (answer-found nothing f).1;
                 leaves = record { count = refl; literals = refl; conclusions = refl; words = refl };
               }
@@ -141,9 +143,6 @@ module _ (rows said patterns literals table : List ℕ) (w : Seekable rows said 
 
 pub ruleset mine = (
   rules,
-  outcome-breach,
-  outcome-clear,
-  outcome-unfit,
   shown-draws,
   seek-ready,
   seek-broken,

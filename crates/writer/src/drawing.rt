@@ -28,7 +28,7 @@ use grounds_numbers::table::{entry_count, fill};
 use grounds_steps::WORDS;
 use grounds_verdict::Conclusions;
 use grounds_words::{Column, Out, batch};
-use runs::limits::{LITERALS, ROW, VARIABLES};
+use runs::limits::{EQUAL, LITERALS, ROW, VARIABLES};
 use runs::{left_in, literal_count, right_in, row_count, sign_in};
 
 // A literal's kind, the numbers of its sides, and whose steps its own are.
@@ -62,7 +62,7 @@ fn owner_of(kind: u16, j: usize) -> u8
     requires { j < most_literals }
     ensures { result ≡ owner_by kind j }
 {
-    if kind == 6 { 0 } else { (j + 1) as u8 }
+    if kind == EQUAL { 0 } else { (j + 1) as u8 }
 }
 
 // Literal j, after n context rows.

@@ -6,10 +6,11 @@ mod drawing;
 ghost use Rattle.std.specs.Prelude.{◌≡◌, ◌≤◌, ltb, length};
 ghost use Rattle.grounds_steps.specs.Steps.{most_steps};
 ghost use Rattle.writer.specs.Claims.{no_conclusions, Writes};
-ghost use Rattle.writer.specs.Seeking.{bare_with, refused_with, outcome_by};
+ghost use Rattle.writer.specs.Seeking.{bare_with, refused_with};
 ghost use Rattle.writer.specs.Lent.{BrokenIn, DrawsIn, SeekableBy, SoughtBy};
 
 use drawing::draw;
+use finder::answered;
 use grounds_steps::{STEPS, WORDS};
 use grounds_verdict::Conclusions;
 use hunting::hunt;
@@ -76,6 +77,7 @@ fn cramped(steps: &[[u64; WORDS]]) -> bool
 }
 
 // The grounds for a breach of n variables.
+// The room for all steps is asked in each contract: the run is lent and written, and a struct of it would only wrap it.
 fn shown(problem: Problem, n: u8, places: [u16; VARIABLES], steps: &mut [[u64; WORDS]]) -> Grounds
     requires broken { BrokenIn problem places }
     requires room { most_steps ≤ length steps.old }
@@ -88,21 +90,6 @@ fn shown(problem: Problem, n: u8, places: [u16; VARIABLES], steps: &mut [[u64; W
         steps: support.steps,
         literals: literal_count(problem.literals),
         conclusions: support.conclusions,
-    }
-}
-
-// Well-formed runs are never told unfit; refusal 0 is no text's.
-fn outcome_of(kind: Kind) -> Outcome
-    ensures { result ≡ outcome_by kind }
-{
-    match kind {
-        Kind::Breach(n) => Outcome::Breach(n),
-        Kind::Clear => Outcome::Clear,
-        Kind::Unfit => Outcome::Refused(Refusal {
-            number: 0,
-            line: 0,
-            offset: 0,
-        }),
     }
 }
 
@@ -119,11 +106,12 @@ fn seek(problem: Problem, table: [u16; ROWS], steps: &mut [[u64; WORDS]]) -> Gro
         problem.literals,
         table,
     );
-    let outcome = outcome_of(r.kind);
+    let reply = answered(r.kind, r.places);
     match r.kind {
         Kind::Breach(n) => shown(problem, n, r.places, steps),
-        Kind::Clear => bare(outcome, r.places),
-        Kind::Unfit => bare(outcome, r.places),
+        // Two arms: the proof shows that the second is not reached.
+        Kind::Clear => bare(reply.outcome, r.places),
+        Kind::Unfit => bare(reply.outcome, r.places),
     }
 }
 

@@ -10,11 +10,11 @@ place-k-requires c = low _ _ _ _ _ _ _ _ _ _ c.requires.closed_by _ _ c.requires
 pub bounds-known-k : goal.bounds-known-k
 bounds-known-k c = let l = low _ _ _ _ _ _ _ _ _ _ c.requires.closed_by _ _ c.requires.x_lt_rows in omega (arith, c.place-k.ensures, l.0, l.1)
 
-pub returns-then-told-eq1 : goal.returns-then-told-eq1
-returns-then-told-eq1 c = record { value = search mine; knows_2 = search mine }
+pub returns-in-1 : goal.returns-in-1
+returns-in-1 c = record { value = search mine; knows_2 = search mine }
 
-pub returns-then-told-eq2 : goal.returns-then-told-eq2
-returns-then-told-eq2 c = record { value = search mine; knows_2 = search mine }
+pub returns-in-2 : goal.returns-in-2
+returns-in-2 c = record { value = search mine; knows_2 = search mine }
 
 pub clashes_ready-b-requires : goal.clashes_ready-b-requires
 clashes_ready-b-requires c =

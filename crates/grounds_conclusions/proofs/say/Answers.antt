@@ -3,8 +3,8 @@
 use Rattle.grounds_conclusions.proofs.Sayings.{saying}
 use Rattle.grounds_conclusions.proofs.say.Goals as goal
 
-pub returns-then-kind-eq6 : goal.returns-then-kind-eq6
-returns-then-kind-eq6 c = search saying
+pub returns-then-kind-eq-EQUAL : goal.returns-then-kind-eq-EQUAL
+returns-then-kind-eq-EQUAL c = search saying
 
-pub returns-else-kind-eq6 : goal.returns-else-kind-eq6
-returns-else-kind-eq6 c = search saying
+pub returns-else-kind-eq-EQUAL : goal.returns-else-kind-eq-EQUAL
+returns-else-kind-eq-EQUAL c = search saying

@@ -7,4 +7,4 @@ pub free-free-requires : goal.free-free-requires
 free-free-requires c = record { rule_fit = rule-fit c.requires.fit_clause c.requires.written; named = literals-named c.requires.fit_clause }
 
 pub returns : goal.returns
-returns c = plan-made c.requires.fit_clause c.requires.written _ _ _ _ _ _ c.levels-levels.ensures c.arrange-arranged.ensures c.variables-variables.ensures c.free-free.ensures c.never-never.ensures
+returns c = plan-made c.requires.fit_clause c.requires.written _ _ _ _ _ _ c.levels-levels.ensures c.arrange.ensures c.variables-variables.ensures c.free-free.ensures c.never-never.ensures

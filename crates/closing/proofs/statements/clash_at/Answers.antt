@@ -3,8 +3,8 @@
 use Rattle.closing.proofs.Clashes.{mine}
 use Rattle.closing.proofs.statements.clash_at.Goals as goal
 
-pub returns-then-kind_at-eq2 : goal.returns-then-kind_at-eq2
-returns-then-kind_at-eq2 c = search mine
+pub returns-then-not-is_equation : goal.returns-then-not-is_equation
+returns-then-not-is_equation c = search mine
 
-pub returns : goal.returns
-returns c = search mine
+pub returns-else-not-is_equation : goal.returns-else-not-is_equation
+returns-else-not-is_equation c = search mine

@@ -3,8 +3,8 @@
 use Rattle.closing.proofs.Clashes.{mine}
 use Rattle.closing.proofs.statements.difference_at.Goals as goal
 
-pub returns-then-kind_at-eq2 : goal.returns-then-kind_at-eq2
-returns-then-kind_at-eq2 c = search mine
+pub returns-then-is_equation : goal.returns-then-is_equation
+returns-then-is_equation c = search mine
 
-pub returns-else-kind_at-eq2 : goal.returns-else-kind_at-eq2
-returns-else-kind_at-eq2 c = search mine
+pub returns-else-is_equation : goal.returns-else-is_equation
+returns-else-is_equation c = search mine

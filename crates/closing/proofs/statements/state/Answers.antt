@@ -3,8 +3,8 @@
 use Rattle.closing.proofs.Stated.{mine}
 use Rattle.closing.proofs.statements.state.Goals as goal
 
-pub returns-then-statements-k-eq2 : goal.returns-then-statements-k-eq2
-returns-then-statements-k-eq2 c = search mine
+pub returns-then-is_equation : goal.returns-then-is_equation
+returns-then-is_equation c = search mine
 
-pub returns-else-statements-k-eq2 : goal.returns-else-statements-k-eq2
-returns-else-statements-k-eq2 c = search mine
+pub returns-else-is_equation : goal.returns-else-is_equation
+returns-else-is_equation c = search mine

@@ -1,5 +1,5 @@
 use Rattle.closing.proofs.Tables.{mine}
 use Rattle.closing.proofs.table.move_class.Goals as goal
 
-pub loop-r-preserved : goal.loop-r-preserved
-loop-r-preserved c = search mine
+pub loop-place-preserved : goal.loop-place-preserved
+loop-place-preserved c = search mine

@@ -3,5 +3,5 @@
 use Rattle.closing.proofs.Tables.{Moving}
 use Rattle.closing.proofs.table.move_class.Given as goal
 
-abbrev pub invariant-loop-r : goal.invariant-loop-r
-invariant-loop-r l = Moving l.lo l.hi 255 l.initial.table l.table l.r
+abbrev pub invariant-loop-place : goal.invariant-loop-place
+invariant-loop-place l = Moving l.lo l.hi 255 l.initial.table l.table l.place-index

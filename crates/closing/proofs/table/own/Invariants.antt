@@ -4,4 +4,4 @@ use Rattle.closing.proofs.Tables.{Filling}
 use Rattle.closing.proofs.table.own.Given as goal
 
 abbrev pub invariant-loop-i : goal.invariant-loop-i
-invariant-loop-i l = Filling l.t l.i
+invariant-loop-i l = Filling l.place-items l.i

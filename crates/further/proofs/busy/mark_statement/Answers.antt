@@ -3,8 +3,8 @@
 use Rattle.further.proofs.Raising.{mine}
 use Rattle.further.proofs.busy.mark_statement.Goals as goal
 
-pub returns-then-statements-k-eq2 : goal.returns-then-statements-k-eq2
-returns-then-statements-k-eq2 c = search mine
+pub returns-then-is_equation : goal.returns-then-is_equation
+returns-then-is_equation c = search mine
 
 pub returns : goal.returns
 returns c = search mine

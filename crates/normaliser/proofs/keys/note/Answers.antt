@@ -1,10 +1,10 @@
--- `keys::note` meets its contract, by cases on the kind.
+-- `keys::note` meets its contract, in both cases.
 -- Assumes nothing.
 use Rattle.normaliser.proofs.Gathering.{mine}
 use Rattle.normaliser.proofs.keys.note.Goals as goal
 
-pub returns-then-kind-eq2 : goal.returns-then-kind-eq2
-returns-then-kind-eq2 c = search mine
+pub returns-then-equation : goal.returns-then-equation
+returns-then-equation c = search mine
 
-pub returns-else-kind-eq2 : goal.returns-else-kind-eq2
-returns-else-kind-eq2 c = search mine
+pub returns-else-equation : goal.returns-else-equation
+returns-else-equation c = search mine

@@ -3,8 +3,8 @@
 use Rattle.search_pairs.proofs.Preparing.{mine}
 use Rattle.search_pairs.proofs.prepare.tell.Goals as goal
 
-pub returns-then-kind_in-eq-EQUATION : goal.returns-then-kind_in-eq-EQUATION
-returns-then-kind_in-eq-EQUATION c = search mine
+pub returns-then-is_equation : goal.returns-then-is_equation
+returns-then-is_equation c = search mine
 
 pub returns : goal.returns
 returns c = search mine

@@ -1,3 +1,5 @@
+use mathlib.Core.Path.{sym, ◌∙◌}
+use borrow.Author.Tests.{eqb-true, eqb-false}
 use Rattle.meaning.specs.Equality.{rep_at}
 use Rattle.values.proofs.Reading.{term-list, term-variable, term-symbol, term-read, rule-few, rule-earlier, rule-long, walk_end, walk_more}
 use borrow.Author.Rules.{rules}
@@ -13,23 +15,23 @@ term-bounds-values-row t c = omega (arith, c.requires.row_le_fresh.0, c.requires
 pub term-returns-then-row-fresh : goal.term-returns-then-row-fresh
 term-returns-then-row-fresh t c = term-list _ (rep_at c.args.reading.now.ledger.table.now) _ _ _ _ _ _ _ _ _ _ _ c.if-row-fresh.true
 
-pub term-bounds-kinds-row : goal.term-bounds-kinds-row
-term-bounds-kinds-row t c = omega (arith, c.requires.row_le_fresh.0, c.requires.row_le_fresh.1, c.requires.asked.rule.few)
+pub term-is_variable-requires : goal.term-is_variable-requires
+term-is_variable-requires t c = omega (arith, c.requires.row_le_fresh.0, c.requires.row_le_fresh.1, c.requires.asked.rule.few)
 
 pub term-given-requires : goal.term-given-requires
-term-given-requires t c = (omega (arith, c.requires.row_le_fresh.0, c.requires.row_le_fresh.1, c.requires.asked.rule.few), (c.requires.asked.rule.written.placed.each c.args.row (omega (arith, c.requires.row_le_fresh.0, c.requires.row_le_fresh.1))).variable c.if-kinds-row-eq4.true)
+term-given-requires t c = (omega (arith, c.requires.row_le_fresh.0, c.requires.row_le_fresh.1, c.requires.asked.rule.few), (c.requires.asked.rule.written.placed.each c.args.row (omega (arith, c.requires.row_le_fresh.0, c.requires.row_le_fresh.1))).variable (eqb-true _ 4 (sym c.is_variable.ensures ∙ c.if-is_variable.true)))
 
-pub term-returns-then-kinds-row-eq4 : goal.term-returns-then-kinds-row-eq4
-term-returns-then-kinds-row-eq4 t c = term-variable _ (rep_at c.args.reading.now.ledger.table.now) _ _ _ _ _ _ _ _ _ _ _ _ c.if-row-fresh.false (omega (arith, c.requires.row_le_fresh.0, c.requires.row_le_fresh.1)) c.if-kinds-row-eq4.true c.given.ensures
+pub term-returns-then-is_variable : goal.term-returns-then-is_variable
+term-returns-then-is_variable t c = term-variable _ (rep_at c.args.reading.now.ledger.table.now) _ _ _ _ _ _ _ _ _ _ _ _ c.if-row-fresh.false (omega (arith, c.requires.row_le_fresh.0, c.requires.row_le_fresh.1)) (eqb-true _ 4 (sym c.is_variable.ensures ∙ c.if-is_variable.true)) c.given.ensures
 
 pub term-walk-w-requires : goal.term-walk-w-requires
-term-walk-w-requires t c = (omega arith, (c.requires.asked, (c.requires.row_le_fresh.0, c.requires.row_le_fresh.1, omega arith, c.if-kinds-row-eq4.false)))
+term-walk-w-requires t c = (omega arith, (c.requires.asked, (c.requires.row_le_fresh.0, c.requires.row_le_fresh.1, omega arith, (eqb-false _ 4 (sym c.is_variable.ensures ∙ c.if-is_variable.false)))))
 
 pub term-look-requires : goal.term-look-requires
-term-look-requires t c = record { asked = c.requires.asked; row_lt_patterns = (omega (arith, c.requires.row_le_fresh.0, c.requires.row_le_fresh.1), c.if-kinds-row-eq4.false) }
+term-look-requires t c = record { asked = c.requires.asked; row_lt_patterns = (omega (arith, c.requires.row_le_fresh.0, c.requires.row_le_fresh.1), (eqb-false _ 4 (sym c.is_variable.ensures ∙ c.if-is_variable.false))) }
 
 pub term-returns : goal.term-returns
-term-returns t c = term-symbol _ (rep_at c.args.reading.now.ledger.table.now) _ _ _ _ _ _ _ _ _ _ _ _ _ c.if-row-fresh.false (omega (arith, c.requires.row_le_fresh.0, c.requires.row_le_fresh.1)) c.if-kinds-row-eq4.false c.walk-w.ensures c.look.ensures
+term-returns t c = term-symbol _ (rep_at c.args.reading.now.ledger.table.now) _ _ _ _ _ _ _ _ _ _ _ _ _ c.if-row-fresh.false (omega (arith, c.requires.row_le_fresh.0, c.requires.row_le_fresh.1)) (eqb-false _ 4 (sym c.is_variable.ensures ∙ c.if-is_variable.false)) c.walk-w.ensures c.look.ensures
 
 pub walk-bounds-counts-row : goal.walk-bounds-counts-row
 walk-bounds-counts-row t c = omega (arith, c.requires.row_le_fresh.0, c.requires.row_le_fresh.1, c.requires.asked.rule.few)

@@ -6,5 +6,5 @@ use Rattle.search_pairs.proofs.labels.Sets.join.Goals as goal
 pub lower-requires : goal.lower-requires
 lower-requires c = record { space = search joins; labelled = search joins; n_in_bounds = search joins; labels = search joins; lo_lt_hi = search joins }
 
-pub lower-requires-2 : goal.lower-requires-2
-lower-requires-2 c = record { space = search joins; labelled = search joins; n_in_bounds = search joins; labels = search joins; lo_lt_hi = search joins }
+pub returns : goal.returns
+returns c = search joins

@@ -5,6 +5,3 @@ use Rattle.search_pairs.proofs.prepare.Ledger.live_pass.Given as goal
 
 abbrev pub invariant-loop-r : goal.invariant-loop-r
 invariant-loop-r l = Passing l.self.n l.self.rows.now l.self.table.now l.r l.initial.sets l.sets l.added
-
-abbrev pub decreases-loop-r : goal.decreases-loop-r
-decreases-loop-r l = l.r
