@@ -1,15 +1,18 @@
 -- What a turn of a loop that reads or writes moves.
 --     read-more, read-none      a read behind those before it, or one that gave nothing
 --     write-more, write-none    a write behind those before it, or one that took nothing
---     zero-again                the error without a number asks for no further try
+--     moved-few, moved-all      no more are counted than there are, and where none are left all are
+--     zero-again, zero-failed   the error without a number asks for no further try, and is a failure
 -- Assumes nothing.
-use Rattle.std.proofs.Common.{◌≡◌, ℕ, ◌+◌, ◌-◌, ◌≤◌, List, ◌++◌, Option, length, take, drop, pos, sym, ap, ◌∙◌, subst, drop_at, length-take-le, take-append-drop, append_assoc, le_refl}
+use Rattle.std.proofs.Common.{◌≡◌, ℕ, ◌+◌, ◌-◌, ◌≤◌, List, ◌++◌, Option, length, take, drop, pos, sym, refl, ap, ◌∙◌, subst, arith, length-append, drop_at, length-take-le, take-append-drop, append_assoc, le_refl}
 use Rattle.std.proofs.lemmas.List.{take_rest}
 use Rattle.std.proofs.lemmas.Slice.{take-put_mid_below}
 use Rattle.std.proofs.KnownBytes.{Consumes-trans, Consumes-kept, Appends-kept, Appends-trans}
 use Rattle.std.specs.Io.KnownBytes.{Consumes, Appends, Keeps}
 use Rattle.std.specs.IoError.{os_error_kind}
 use Rattle.std.specs.declared.io.ErrorKind.TheVariants.{Interrupted}
+use Rattle.channels.specs.declared.output.Stop.TheVariants.{Failed}
+use Rattle.channels.specs.Sending.{stop_of}
 use borrow.Rule.Slice.PartMut.{put_mid, post_of}
 use lib.Seq.{take-add, take-append-le}
 
@@ -39,17 +42,28 @@ module _ (a b c : Option (List ℕ)) (space part : List ℕ) (done : ℕ) (withi
 -- ---- bytes that are left
 
 module _ (a : Option (List ℕ)) (all : List ℕ) where
-  abbrev pub Moved : Option (List ℕ) → List ℕ → Type 0
-  Moved now left = (done : List ℕ) × (all ≡ done ++ left) × Appends a now done
+  abbrev pub Moved : Option (List ℕ) → List ℕ → ℕ → Type 0
+  Moved now left count = (done : List ℕ) × (all ≡ done ++ left) × Appends a now done × (count ≡ length done)
 
-  module _ (b c : Option (List ℕ)) (rest : List ℕ) where
-    pub write-none : Moved b rest → Keeps b c → Moved c rest
-    write-none (done, e, p) q = (done, e, Appends-kept a b c done p q)
+  module _ (b c : Option (List ℕ)) (rest : List ℕ) (count : ℕ) where
+    pub write-none : Moved b rest count → Keeps b c → Moved c rest count
+    write-none (done, e, p, h) q = (done, e, Appends-kept a b c done p q, h)
 
-    pub write-more : (n : ℕ) → Moved b rest → Appends b c (take n rest) → Moved c (take (length rest - n) (drop n rest))
-    write-more n (done, e, p) q =
-        (done ++ take n rest, e ∙ ap (λ l. done ++ l) (sym (take-append-drop n rest)) ∙ sym (append_assoc done (take n rest) (drop n rest)) ∙ ap (λ l. (done ++ take n rest) ++ l) (sym (take_rest rest n)), Appends-trans _ _ _ _ _ p q)
+    pub write-more : (n : ℕ) → n ≤ length rest → Moved b rest count → Appends b c (take n rest) → Moved c (take (length rest - n) (drop n rest)) (count + n)
+    write-more n fits (done, e, p, h) q =
+        (done ++ take n rest, e ∙ ap (λ l. done ++ l) (sym (take-append-drop n rest)) ∙ sym (append_assoc done (take n rest) (drop n rest)) ∙ ap (λ l. (done ++ take n rest) ++ l) (sym (take_rest rest n)), Appends-trans _ _ _ _ _ p q, omega (arith, h, length-take-le n rest fits, length-append done (take n rest)))
+
+  module _ (now : Option (List ℕ)) (left : List ℕ) (count : ℕ) where
+    pub moved-few : (n : ℕ) → n ≤ length left → Moved now left count → count + n ≤ length all
+    moved-few n fits (done, e, p, h) = omega (arith, fits, h, ap length e, length-append done left)
+
+    pub moved-all : length left ≡ 0 → Moved now left count → count ≡ length all
+    moved-all q (done, e, p, h) = omega (arith, q, h, ap length e, length-append done left)
 
 pub zero-again : os_error_kind (pos 0) ≡ Interrupted → ⊥
 unfolding os_error_kind
 zero-again e = cc
+
+pub zero-failed : stop_of (os_error_kind (pos 0)) ≡ Failed
+unfolding os_error_kind
+zero-failed = refl

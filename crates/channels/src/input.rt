@@ -3,9 +3,9 @@ ghost use Rattle.std.specs.Prelude.{◌≡◌, ◌≢◌, suc, ◌<◌, ◌≤�
 ghost use Rattle.std.specs.IoError.{error_kind};
 ghost use Rattle.std.specs.Io.KnownBytes.{Consumes, IsAtEnd};
 ghost use Rattle.meaning.specs.Replies.{input_limit};
-ghost use Rattle.channels.specs.Taking.{piece_space, Takes};
+ghost use Rattle.channels.specs.Taking.{piece_space, taken_of, Takes};
 
-use crate::saying::{say, say_failure};
+use crate::saying::{is_interrupted, say, say_failure};
 use replies::INPUT_LIMIT;
 use std::io;
 use std::io::{ErrorKind, Read};
@@ -48,23 +48,30 @@ fn fill<R: Read>(reader: &mut R, space: &mut [u8]) -> io::Result<usize>
         match reader.read(&mut space[done..]) {
             Ok(0) => return Ok(done),
             Ok(n) => done += n,
-            Err(e) if e.kind() == ErrorKind::Interrupted => {}
+            Err(e) if is_interrupted(&e) => {}
             Err(e) => return Err(e),
         }
     }
     Err(ErrorKind::TimedOut.into())
 }
 
-fn take(rt: &(impl Input + Eprint), space: &mut [u8]) -> Result<usize, Unread>
-    ensures { Takes result space.new }
+// Hands on what became of a read. A failure is said on standard error.
+fn told(rt: &impl Eprint, read: io::Result<usize>) -> Result<usize, Unread>
+    ensures { result ≡ taken_of read }
 {
-    match fill(&mut rt.reader(), space) {
+    match read {
         Ok(n) => Ok(n),
         Err(e) => {
             say_failure(rt, "standard input", &e);
             Err(Unread)
         }
     }
+}
+
+fn take(rt: &(impl Input + Eprint), space: &mut [u8]) -> Result<usize, Unread>
+    ensures { Takes result space.new }
+{
+    told(rt, fill(&mut rt.reader(), space))
 }
 
 // Reads the input, as far as there is space.

@@ -1,10 +1,10 @@
 // Standard output.
-ghost use Rattle.std.specs.Prelude.{◌≡◌, ◌≢◌, OnOk, IfErr};
+ghost use Rattle.std.specs.Prelude.{◌≡◌, ◌≢◌, length, IfOk, OnOk, IfErr};
 ghost use Rattle.std.specs.IoError.{error_kind};
 ghost use Rattle.std.specs.Io.KnownBytes.{Appends};
-ghost use Rattle.channels.specs.Sending.{stop_of, none_taken, both_of, Carries};
+ghost use Rattle.channels.specs.Sending.{stop_of, none_taken, both_of, sent_of, Carries};
 
-use crate::saying::say_failure;
+use crate::saying::{is_interrupted, say_failure};
 use std::io;
 use std::io::{ErrorKind, Write};
 
@@ -60,39 +60,70 @@ impl Stop {
     }
 }
 
-// Writes until every byte is taken. A write that a signal interrupted is tried again, as a read is; one that takes nothing has failed.
+// What a write that takes nothing is: a failure, and none to be tried again.
+fn stuck() -> io::Error
+    ensures failed { stop_of (error_kind result) ≡ Stop.Failed }
+    ensures retried { error_kind result ≢ ErrorKind.Interrupted }
+{
+    io::Error::from_raw_os_error(0)
+}
+
+// Writes until every byte is taken, and answers how many were. A write that a signal interrupted is tried again, as a read is; one that takes
+// nothing has failed. The last error is kept: it is what can be said of a failure that comes without one.
 // No `write_all`: it does not promise that an interrupted write is tried again.
-pub(crate) fn send<W: Write>(writer: &mut W, bytes: &[u8]) -> io::Result<()>
+pub(crate) fn send<W: Write>(
+    writer: &mut W,
+    bytes: &[u8],
+    last: &mut io::Error,
+) -> io::Result<usize>
+    ensures counted { IfOk result (λ n. n ≡ length bytes.now) }
     ensures bytes { OnOk result (Appends (W.contents writer.old) (W.contents writer.new) bytes.now) }
     ensures retried { IfErr result (λ e. error_kind e ≢ ErrorKind.Interrupted) }
 {
+    let mut done = 0;
     let mut rest = bytes;
     for _ in 0..u64::MAX {
         if rest.is_empty() {
-            return Ok(());
+            return Ok(done);
         }
         match writer.write(rest) {
-            Ok(0) => return Err(io::Error::from_raw_os_error(0)),
-            Ok(n) => rest = &rest[n..],
-            Err(e) if e.kind() == ErrorKind::Interrupted => {}
-            Err(e) => return Err(e),
+            Ok(0) => return Err(stuck()),
+            Ok(n) => {
+                done += n;
+                rest = &rest[n..];
+            }
+            Err(e) => {
+                *last = e;
+                if !is_interrupted(&e) {
+                    return Err(e);
+                }
+            }
         }
     }
     Err(ErrorKind::TimedOut.into())
+}
+
+// Hands on what became of bytes. A failure is said on standard error, by the last error.
+fn told(rt: &impl Eprint, sent: io::Result<usize>, last: &io::Error) -> Sent
+    ensures { result ≡ sent_of sent }
+{
+    match sent {
+        Ok(count) => Ok(Taken { count }),
+        Err(e) => {
+            let why = Stop::behind(&e);
+            if why == Stop::Failed {
+                say_failure(rt, "standard output", last);
+            }
+            Err(Untaken { why })
+        }
+    }
 }
 
 // Hands bytes over to standard output.
 pub fn put(rt: &(impl Print + Eprint), bytes: &[u8]) -> Sent
     ensures carries { Carries bytes.now result }
 {
-    match send(&mut io::writer(rt), bytes) {
-        Ok(()) => Ok(Taken { count: bytes.len() }),
-        Err(e) => {
-            let why = Stop::behind(&e);
-            if why == Stop::Failed {
-                say_failure(rt, "standard output", &e);
-            }
-            Err(Untaken { why })
-        }
-    }
+    let mut last = io::Error::from_raw_os_error(0);
+    let sent = send(&mut io::writer(rt), bytes, &mut last);
+    told(rt, sent, &last)
 }

@@ -5,6 +5,7 @@ ghost use Rattle.channels.specs.Telling.{place_of, status_of};
 use crate::output::{Sent, Stop, send};
 use std::fs;
 use std::fs::OpenOptions;
+use std::io::Error;
 use std::rt::{Env, Files};
 
 // The run gave its reply, or nobody reads it any more.
@@ -55,7 +56,8 @@ fn tell_on(rt: &impl Files, fd: i32, status: u8) {
         return;
     }
     if let Ok(mut file) = OpenOptions::new().read(true).append(true).open(rt, path) {
-        let _ = send(&mut file, &[status]);
+        let mut last = Error::from_raw_os_error(0);
+        let _ = send(&mut file, &[status], &mut last);
     }
 }
 

@@ -22,14 +22,18 @@ pub(crate) fn number(table: &mut [u16])
     }
 }
 
-// Each place that holds hi gets lo.
+fn moved(lo: u16, hi: u16, x: u16) -> u16
+    ensures { result ≡ move lo hi x }
+{
+    if x == hi { lo } else { x }
+}
+
+// Each place that holds hi gets lo. Every place is written, so that the compiler takes several at once.
 fn move_all(table: &mut [u16], lo: u16, hi: u16)
     ensures { table.new ≡ map (move lo hi) table.old }
 {
     for place in table.iter_mut() {
-        if *place == hi {
-            *place = lo;
-        }
+        *place = moved(lo, hi, *place);
     }
 }
 

@@ -195,21 +195,21 @@ module _ (n : Noted) (vs : List ℕ) (y x : ℕ) (e : y ≡ byte_of vs 1) (d : x
   unfolding noted wanted
   note-high h = rw (← e, ← d, lt-ltb 0 x (omega arith), lt-leb x 16 h)
 
-  pub note-again : (x ≡ 0 → ⊥) → x ≤ 16 → get_or n.given (x - 1) false ≡ true → n ≡ noted n vs
+  pub note-again : (x ≡ 0 → ⊥) → x ≤ 16 → (get_or n.given (x - 1) 0 ≡ 0 → ⊥) → n ≡ noted n vs
   unfolding noted wanted
-  note-again f h k = rw (← e, ← d, lt-ltb 0 x (omega arith), le-leb x 16 h, k)
+  note-again f h k = rw (← e, ← d, lt-ltb 0 x (omega arith), le-leb x 16 h, ne_eqb (get_or n.given (x - 1) 0) 0 k)
 
-  pub note-first : (x ≡ 0 → ⊥) → x ≤ 16 → get_or n.given (x - 1) false ≡ false → (a b : ℕ) → a ≡ four_of vs 2 → b ≡ two_of vs 10
+  pub note-first : (x ≡ 0 → ⊥) → x ≤ 16 → get_or n.given (x - 1) 0 ≡ 0 → (a b : ℕ) → a ≡ four_of vs 2 → b ≡ two_of vs 10
       → record {
         conclusions =
             record {
               firsts = set n.conclusions.firsts (x - 1) a;
               differences = set n.conclusions.differences (x - 1) b;
             };
-        given = set n.given (x - 1) true;
+        given = set n.given (x - 1) 1;
       } ≡ noted n vs
   unfolding noted wanted put_conclusion
-  note-first f h k a b g i = rw (← e, ← d, lt-ltb 0 x (omega arith), le-leb x 16 h, k, g, i)
+  note-first f h k a b g i = rw (← e, ← d, lt-ltb 0 x (omega arith), le-leb x 16 h, eq-eqb (get_or n.given (x - 1) 0) 0 k, g, i)
 
 -- ---- the parser
 

@@ -4,7 +4,7 @@
 --     taken, fed, finished          the memory after one byte, after some, and after the last
 --     Becomes, EndsBy               what code does to a memory
 -- Sizes stop growing one above the most that is asked for, and a place past a space is not stored. Assumes nothing.
-use Rattle.std.specs.Prelude.{Bool, true, false, not, ◌&&◌, List, [], ◌∷◌, ◌≡◌, ℕ, ◌+◌, ◌-◌, eqb, ltb, leb, get_or, set, replicate, cond}
+use Rattle.std.specs.Prelude.{Bool, true, false, ◌&&◌, List, [], ◌∷◌, ◌≡◌, ℕ, ◌+◌, ◌-◌, eqb, ltb, leb, get_or, set, replicate, cond}
 use Rattle.meaning.specs.Text.{digit}
 use Rattle.meaning.specs.Replies.{input_limit}
 use Rattle.runs.specs.Limits.{most_literals, most_variables, unused_place}
@@ -79,11 +79,11 @@ put_conclusion n vs i =
             firsts = set n.conclusions.firsts i (four_of vs 2);
             differences = set n.conclusions.differences i (two_of vs 10);
           };
-      given = set n.given i true;
+      given = set n.given i 1;
     }
 
-unfoldable pub wanted : List Bool → ℕ → Bool
-wanted given x = ltb 0 x && (leb x most_literals && not (get_or given (x - 1) false))
+unfoldable pub wanted : List ℕ → ℕ → Bool
+wanted given x = ltb 0 x && (leb x most_literals && eqb (get_or given (x - 1) 0) 0)
 
 unfoldable pub noted : Noted → List ℕ → Noted
 noted n vs = cond (wanted n.given (byte_of vs 1)) (put_conclusion n vs (byte_of vs 1 - 1)) n
@@ -122,7 +122,7 @@ unfoldable pub no_conclusions : Noted
 no_conclusions =
     record {
       conclusions = record { firsts = replicate most_literals 0; differences = replicate most_literals 0 };
-      given = replicate most_literals false;
+      given = replicate most_literals 0;
     }
 
 unfoldable pub fresh : Parser

@@ -44,11 +44,12 @@ pub struct Buffer {
     pub good: bool,
 }
 
-// The conclusions, and for which literals there was one.
+// The conclusions, and for which literals there was one: any number but 0.
+// No bools: a parser may be handed in with any number.
 #[derive(Clone, Copy)]
 pub struct Noted {
     pub conclusions: Conclusions,
-    pub given: [bool; LITERALS],
+    pub given: [u8; LITERALS],
 }
 
 #[derive(Clone, Copy)]

@@ -15,7 +15,7 @@ impl Noted {
                 firsts: [0; LITERALS],
                 differences: [0; LITERALS],
             },
-            given: [false; LITERALS],
+            given: [0; LITERALS],
         }
     }
 
@@ -25,10 +25,10 @@ impl Noted {
     {
         let mut noted = self;
         let literal = usize::from(l.byte(1));
-        if literal != 0 && literal <= LITERALS && !noted.given[literal - 1] {
+        if literal != 0 && literal <= LITERALS && noted.given[literal - 1] == 0 {
             noted.conclusions.firsts[literal - 1] = l.four(2);
             noted.conclusions.differences[literal - 1] = l.two(10);
-            noted.given[literal - 1] = true;
+            noted.given[literal - 1] = 1;
         }
         noted
     }

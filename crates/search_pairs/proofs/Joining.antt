@@ -180,13 +180,16 @@ pub moved-other : (lo hi x l : ℕ) → x ≡ l → (x ≡ hi → ⊥) → l ≡
 moved-other lo hi x l e q = sym (move-other lo hi l (λ z. q (e ∙ z)))
 
 module _ (n lo hi w : ℕ) (labels₀ work : List ℕ) (laid : Labelled n labels₀ work) (space : Space n labels₀ work) (h : lo < hi) (o : Own n labels₀ hi) where
-  pub relabelling-start : (v : ℕ) → v ≡ lo → w ≡ words_for n → Relabelling n lo hi w labels₀ (set labels₀ hi v) work 0
-  relabelling-start v ev ew = record { words = ew; long = length-set labels₀ hi v; each = λ a i. go a (ℕ_discrete a hi) }
+  pub relabelling-start : (v : ℕ) → v ≡ lo → w ≡ words_for n → Relabelling n lo hi w labels₀ (set labels₀ hi v) work (hi + 1)
+  relabelling-start v ev ew = record { words = ew; long = length-set labels₀ hi v; each = λ a i. go a i (ℕ_discrete a hi) (dec_lt a hi) }
     where
-      go : (a : ℕ) → Dec (a ≡ hi) → (rep_at (set labels₀ hi v) a ≡ move lo hi (rep_at labels₀ a)) ⊎ ((rep_at (set labels₀ hi v) a ≡ rep_at labels₀ a) × (0 ≤ a) × (a ≡ hi → ⊥))
-      go a (yes d) =
+      go : (a : ℕ) → a < n → Dec (a ≡ hi) → Dec (a < hi)
+          → (rep_at (set labels₀ hi v) a ≡ move lo hi (rep_at labels₀ a)) ⊎ ((rep_at (set labels₀ hi v) a ≡ rep_at labels₀ a) × (hi + 1 ≤ a) × (a ≡ hi → ⊥))
+      go a i (yes d) l =
           inl (rw d (get_or-set_same labels₀ hi v 0 (omega (arith, o.inside, space.labels-long)) ∙ ev ∙ sym (move-here lo hi (rep_at labels₀ hi) o.own)))
-      go a (no d) = inr (get_or-set_other labels₀ hi a v 0 d, omega arith, d)
+      go a i (no d) (yes l) =
+          inl (get_or-set_other labels₀ hi a v 0 d ∙ sym (move-other lo hi (rep_at labels₀ a) (λ e. omega (arith, e, laid.low a i))))
+      go a i (no d) (no l) = inr (get_or-set_other labels₀ hi a v 0 d, omega arith, d)
 
   module _ (labels : List ℕ) (from : ℕ) (p : Relabelling n lo hi w labels₀ labels work from) where
     -- a class that is not known keeps its label, which is its own

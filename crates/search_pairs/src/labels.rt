@@ -99,7 +99,8 @@ fn relabel(labels: &mut [u16], work: &[u64], n: usize, lo: usize, hi: usize)
 {
     labels[hi] = lo as u16;
     let w = words(n);
-    let mut from = 0;
+    // No class before hi has its label.
+    let mut from = hi + 1;
     // No iterator: `next_class` has none.
     while let Some(k) = next_class(work, w, n, from) {
         labels[k] = moved(lo, hi, labels[k]);

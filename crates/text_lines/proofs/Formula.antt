@@ -1,4 +1,5 @@
 -- The digit value of a byte, by where the byte stands among the digits.
+--     digit-below, digit-between, digit-above    a byte that is no digit has the value 255
 --     number .. above     the look-up's ways out
 --     value-is            the value is the rule's
 -- Assumes nothing.
@@ -31,15 +32,15 @@ digit-letter : (b : ℕ) → 65 ≤ b → b ≤ 70 → digit b ≡ b - 55
 unfolding digit
 digit-letter b h k = rw (digit, over 48 57 b (omega (arith, h)) (omega (arith, h)), inside 65 70 b h k)
 
-digit-below : (b : ℕ) → b < 48 → digit b ≡ 255
+pub digit-below : (b : ℕ) → b < 48 → digit b ≡ 255
 unfolding digit
 digit-below b h = rw (digit, under 48 57 b h, under 65 70 b (omega (arith, h)))
 
-digit-between : (b : ℕ) → 57 < b → b < 65 → digit b ≡ 255
+pub digit-between : (b : ℕ) → 57 < b → b < 65 → digit b ≡ 255
 unfolding digit
 digit-between b h k = rw (digit, over 48 57 b (omega (arith, h)) h, under 65 70 b k)
 
-digit-above : (b : ℕ) → 70 < b → digit b ≡ 255
+pub digit-above : (b : ℕ) → 70 < b → digit b ≡ 255
 unfolding digit
 digit-above b h = rw (digit, over 48 57 b (omega (arith, h)) (omega (arith, h)), over 65 70 b (omega (arith, h)) h)
 
