@@ -1,5 +1,5 @@
 // Standard input.
-ghost use Rattle.std.specs.Prelude.{◌≡◌, ◌≢◌, suc, ◌<◌, ◌≤◌, length, take, replicate, IfOk, IfErr};
+ghost use Rattle.std.specs.Prelude.{◌≡◌, ◌≢◌, suc, ◌<◌, ◌≤◌, length, take, replicate, Ok, IfOk, IfErr};
 ghost use Rattle.std.specs.IoError.{error_kind};
 ghost use Rattle.std.specs.Io.KnownBytes.{Consumes, IsAtEnd};
 ghost use Rattle.meaning.specs.Replies.{input_limit};
@@ -32,6 +32,13 @@ pub fn piece_space() -> [u8; PIECE_SPACE]
     [0; PIECE_SPACE]
 }
 
+// What a read that gives nothing is: the end of the input, after so many bytes, and no failure.
+fn ended(done: usize) -> io::Result<usize>
+    ensures { result ≡ Ok done }
+{
+    Ok(done)
+}
+
 // Reads until the space is full or the input ends, and answers how many bytes were read. A read that a signal interrupted is tried again; nothing
 // says that this ends, so the turns are counted by a number that no run uses up.
 fn fill<R: Read>(reader: &mut R, space: &mut [u8]) -> io::Result<usize>
@@ -46,7 +53,7 @@ fn fill<R: Read>(reader: &mut R, space: &mut [u8]) -> io::Result<usize>
             return Ok(done);
         }
         match reader.read(&mut space[done..]) {
-            Ok(0) => return Ok(done),
+            Ok(0) => return ended(done),
             Ok(n) => done += n,
             Err(e) if is_interrupted(&e) => {}
             Err(e) => return Err(e),
